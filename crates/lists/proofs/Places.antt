@@ -1,0 +1,36 @@
+-- Laws of places: what stands at one after another was set, or cleared.
+-- Assumes nothing.
+use Prim.Native.Nat.{ℕ, zero, suc, _<_}
+use mathlib.Core.Path.{_≡_, refl, sym}
+use mathlib.Core.Bool.{Bool, true, false}
+use mathlib.Core.List.{List, [], _∷_}
+use lib.ListN.{length, getD, set, replicate}
+use lib.Seq.{getD-set-same, getD-set-other}
+use borrow.Author.Tests.{eqb-true, eqb-false}
+use Rattle.lists.specs.Tests.{if_then_else_, _==_}
+
+module _ {A : Type 0} (d : A) where
+  pub getD-set : (l : List A) (i j : ℕ) (x : A) → i < length l → getD (set l i x) j d ≡ (if i == j then x else getD l j d)
+  getD-set l i j x h = go (i == j) refl
+    where
+      go : (b : Bool) → (i == j) ≡ b → getD (set l i x) j d ≡ (if b then x else getD l j d)
+      go true e = rw (← eqb-true i j e) (getD-set-same l i x d h)
+      go false e = getD-set-other l i j x d (λ z. eqb-false i j e (sym z))
+
+  pub getD-blank : (n i : ℕ) → getD (replicate n d) i d ≡ d
+  getD-blank zero i = refl
+  getD-blank (suc n) zero = refl
+  getD-blank (suc n) (suc i) = getD-blank n i
+
+  -- to set the default needs no bound
+  cleared : (l : List A) (i : ℕ) → getD (set l i d) i d ≡ d
+  cleared [] i = refl
+  cleared (x ∷ l) zero = refl
+  cleared (x ∷ l) (suc i) = cleared l i
+
+  pub getD-clear : (l : List A) (i j : ℕ) → getD (set l i d) j d ≡ (if i == j then d else getD l j d)
+  getD-clear l i j = go (i == j) refl
+    where
+      go : (b : Bool) → (i == j) ≡ b → getD (set l i d) j d ≡ (if b then d else getD l j d)
+      go true e = rw (← eqb-true i j e) (cleared l i)
+      go false e = getD-set-other l i j d d (λ z. eqb-false i j e (sym z))

@@ -1,0 +1,68 @@
+-- No call changes the bounds.
+-- Assumes nothing.
+use Prim.Native.Nat.{ℕ, zero, suc}
+use mathlib.Core.Path.{_≡_, refl, _∙_}
+use mathlib.Core.Bool.{Bool, true, false}
+use mathlib.Core.List.{List, [], _∷_}
+use Rattle.lists.specs.Tests.{if_then_else_, _==_}
+use Rattle.rules.specs.declared.Kind.{Kind}
+use Rattle.rules.specs.declared.Kind.the-variants.{Event, Issuer, Reserved, Unsupported}
+use Rattle.rules.specs.Holds.{Bounds, Tables, Model}
+use Rattle.rules.specs.Events.{callControl, kindOf}
+use Rattle.rules.specs.Applets.{register, withRegistration}
+use Rattle.rules.specs.Calls.{Call, admin, event, entry, timer, arrival, settled, proactive, systemCommand}
+use Rattle.rules.specs.Calls.{install, delete, lock, unlock, setEvent, clearEvent, askEvent, newEntry, changeEntry, enableEntry, disableEntry, allocate, release}
+use Rattle.rules.specs.Refusals.{refusal}
+use Rattle.rules.specs.Step.{adminTables, eventTables, entryTables, timerTables, tablesAfter, changed, outcome, step}
+use Rattle.rules.specs.Beside.{freshBy, freshCard}
+use Rattle.rules.specs.Runs.{after}
+
+either : (c : Bool) (x y : Tables) {b : Bounds} → x .bounds ≡ b → y .bounds ≡ b → (if c then x else y) .bounds ≡ b
+either true x y p q = p
+either false x y p q = q
+
+register-keeps : (t : Tables) (n : ℕ) (k : Kind) (b : Bool) → register t n k b .bounds ≡ t .bounds
+unfolding register withRegistration
+register-keeps t n (Event e) b = either (e == callControl) _ _ refl refl
+register-keeps t n Issuer b = refl
+register-keeps t n Reserved b = refl
+register-keeps t n Unsupported b = refl
+
+tables-keep : (t : Tables) (c : Call) → tablesAfter t c .bounds ≡ t .bounds
+unfolding tablesAfter adminTables eventTables entryTables timerTables
+tables-keep t (admin (install n r)) = refl
+tables-keep t (admin (delete n)) = refl
+tables-keep t (admin (lock n)) = refl
+tables-keep t (admin (unlock n)) = refl
+tables-keep t (event (setEvent n v)) = register-keeps t n (kindOf v) true
+tables-keep t (event (clearEvent n v)) = register-keeps t n (kindOf v) false
+tables-keep t (event (askEvent n v)) = refl
+tables-keep t (entry (newEntry n h x)) = refl
+tables-keep t (entry (changeEntry n i h x)) = refl
+tables-keep t (entry (enableEntry n i)) = refl
+tables-keep t (entry (disableEntry n i)) = refl
+tables-keep t (timer (allocate n)) = refl
+tables-keep t (timer (release n k)) = refl
+tables-keep t (arrival c) = refl
+tables-keep t settled = refl
+tables-keep t (proactive c) = refl
+tables-keep t (systemCommand buffer) = refl
+
+outcome-keeps : (n : ℕ) (m : Model) (c : Call) → outcome n m c .after .tables .bounds ≡ m .tables .bounds
+unfolding outcome changed
+outcome-keeps zero m c = tables-keep (m .tables) c
+outcome-keeps (suc n) m c = refl
+
+pub step-keeps : (m : Model) (c : Call) → step m c .after .tables .bounds ≡ m .tables .bounds
+unfolding step
+step-keeps m c = outcome-keeps (refusal m c) m c
+
+fresh-has : (n : ℕ) (b : Bounds) (title : List ℕ) → freshBy n b title .card .tables .bounds ≡ b
+unfolding freshBy
+fresh-has zero b title = refl
+fresh-has (suc n) b title = refl
+
+pub after-keeps : (b : Bounds) (title : List ℕ) (calls : List Call) → after b title calls .tables .bounds ≡ b
+unfolding after freshCard
+after-keeps b title [] = fresh-has _ b title
+after-keeps b title (c ∷ calls) = step-keeps (after b title calls) c ∙ after-keeps b title calls

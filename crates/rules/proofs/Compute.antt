@@ -1,0 +1,96 @@
+-- One name that opens every definition of the rules: a proof by computation says `unfolding compute`.
+-- Assumes nothing.
+use Rattle.lists.specs.Lists as lists′
+use Rattle.lists.specs.Text as text′
+use Rattle.rules.specs.Events as events′
+use Rattle.rules.specs.Bytes as bytes′
+use Rattle.rules.specs.Envelopes as envelopes′
+use Rattle.rules.specs.Applets as applets′
+use Rattle.rules.specs.Rows as rows′
+use Rattle.rules.specs.Timers as timers′
+use Rattle.rules.specs.Arrivals as arrivals′
+use Rattle.rules.specs.Commands as commands′
+use Rattle.rules.specs.Desk as desk′
+use Rattle.rules.specs.Refusals as refusals′
+use Rattle.rules.specs.Step as step′
+use Rattle.rules.specs.Beside as beside′
+use Rattle.rules.specs.Runs as runs′
+use Rattle.rules.specs.Floor as floor′
+use Rattle.rules.specs.Held as held′
+use Rattle.rules.specs.Papers as papers′
+
+unfoldable pub openLists : Unit {0}
+unfolding lists′.empty? lists′.some? lists′.every? lists′.Every lists′.keep lists′.count lists′.run lists′.indexOf lists′.first lists′.change lists′.insertBefore lists′.insertAt lists′.sum lists′.gather lists′.alike? lists′.padded lists′.in? lists′.same? lists′.repeats?
+openLists = tt
+
+unfoldable pub openText : Unit {0}
+unfolding text′.ascii text′.digitValue text′.bytesBy text′.bytes
+openText = tt
+
+unfoldable pub openEvents : Unit {0}
+unfolding events′.values events′.codes events′.named events′.kindOf events′.kindOfCode events′.notSupported events′.notToSet events′.isControl
+openEvents = tt
+
+unfoldable pub openBytes : Unit {0}
+unfolding bytes′.tagSize bytes′.tagNumber bytes′.longLength bytes′.lengthAt bytes′.valued bytes′.elementBy bytes′.elementAt bytes′.runBy bytes′.runAt bytes′.fills bytes′.nth bytes′.found bytes′.isFound bytes′.partOf bytes′.outerBy bytes′.outerOf
+openBytes = tt
+
+unfoldable pub openEnvelopes : Unit {0}
+unfolding envelopes′.isSized envelopes′.onlyByte envelopes′.helpBy envelopes′.withDevices envelopes′.menuBy envelopes′.menuIn envelopes′.callIn envelopes′.downloadBy envelopes′.downloadIn envelopes′.expiryBy envelopes′.expiryIn envelopes′.envelopeBy envelopes′.envelopeIn envelopes′.envelopeOf envelopes′.badEnvelope envelopes′.contentIn envelopes′.contentOf envelopes′.typeBy envelopes′.timerBy envelopes′.commandBy envelopes′.commandIn envelopes′.commandOf envelopes′.badCommand envelopes′.systemType
+openEnvelopes = tt
+
+unfoldable pub openApplets : Unit {0}
+unfolding applets′.isNumber applets′.present applets′.applet applets′.lookedAt applets′.outOfRange applets′.tooMany applets′.requested applets′.clash applets′.newcomer applets′.registered applets′.isRegistered applets′.ownedByAnother applets′.withRegistration applets′.register applets′.usedUp applets′.inOrder
+openApplets = tt
+
+unfoldable pub openRows : Unit {0}
+unfolding rows′.place rows′.inUse rows′.freeFrom rows′.identifierFor rows′.nextPair rows′.allMade rows′.badText rows′.nextIdentifier rows′.withEntry rows′.notItsRow rows′.withText rows′.withEnabled rows′.withoutRows
+openRows = tt
+
+unfoldable pub openTimers : Unit {0}
+unfolding timers′.isOwner timers′.lowestFree timers′.atLimit timers′.noneFree timers′.ownerOf timers′.notItsTimer timers′.withAllocated timers′.withReleased timers′.withoutTimers
+openTimers = tt
+
+unfoldable pub openArrivals : Unit {0}
+unfolding arrivals′.download arrivals′.arrivalOf arrivals′.wants arrivals′.called arrivals′.responds
+openArrivals = tt
+
+unfoldable pub openCommands : Unit {0}
+unfolding commands′.selectable commands′.shownMenu commands′.listened commands′.shownFrom commands′.shownEvents commands′.menuOf commands′.lengthBytes commands′.commandBytes commands′.detailBytes commands′.itemBytes commands′.itemsBytes commands′.menuValue commands′.menuBytes commands′.eventBytes commands′.readItems commands′.partsOf commands′.valueOf commands′.readMenu commands′.properItem commands′.mayStand commands′.isMenu
+openCommands = tt
+
+unfoldable pub openDesk : Unit {0}
+unfolding desk′.sameRow? desk′.menuChanges desk′.eventsChange desk′.marked desk′.withProfile desk′.dueCommand desk′.withHandedOut
+openDesk = tt
+
+unfoldable pub openRefusals : Unit {0}
+unfolding refusals′.lowest refusals′.absent refusals′.foreignTimer refusals′.adminLines refusals′.eventLines refusals′.entryLines refusals′.timerLines refusals′.arrivalLines refusals′.proactiveLines refusals′.lines refusals′.refusal
+openRefusals = tt
+
+unfoldable pub openStep : Unit {0}
+unfolding step′.adminTables step′.eventTables step′.entryTables step′.timerTables step′.tablesAfter step′.arrivalDesk step′.proactiveDesk step′.deskAfter step′.changed step′.eventAnswer step′.entryAnswer step′.timerAnswer step′.arrivalAnswer step′.answer step′.lent step′.front step′.written step′.outcome step′.step
+openStep = tt
+
+unfoldable pub openBeside : Unit {0}
+unfolding beside′.freshBy beside′.freshCard beside′.readBy beside′.menuReader beside′.allocateBy beside′.bankAllocate beside′.releaseBy beside′.bankRelease
+openBeside = tt
+
+unfoldable pub openRuns : Unit {0}
+unfolding runs′.after
+openRuns = tt
+
+unfoldable pub openFloor : Unit {0}
+unfolding floor′.letters floor′.signed floor′.requestOf floor′.orderBy floor′.filled floor′.orderOf floor′.shownAnswer floor′.digit floor′.decimalBy floor′.decimal floor′.hex floor′.lineOf floor′.obeyed floor′.obey floor′.stepLine floor′.linesBy floor′.floorLines
+openFloor = tt
+
+unfoldable pub openHeld : Unit {0}
+unfolding held′.viewApplet held′.storedApplet held′.viewApplets held′.storedApplets held′.viewRow held′.storedRow held′.viewRows held′.storedRows held′.viewDesk held′.storedDesk held′.storedItem held′.storedMenu
+openHeld = tt
+
+unfoldable pub openPapers : Unit {0}
+unfolding papers′.paperDone papers′.paperGiven papers′.paperTold papers′.paperCalled
+openPapers = tt
+
+unfoldable pub compute : Unit {0}
+unfolding openLists openText openEvents openBytes openEnvelopes openApplets openRows openTimers openArrivals openCommands openDesk openRefusals openStep openBeside openRuns openFloor openHeld openPapers
+compute = tt

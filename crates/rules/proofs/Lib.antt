@@ -1,0 +1,10 @@
+-- The proved cases, by computation; then laws of the rules.
+pub mod Compute
+pub mod Cases
+pub mod Worked
+pub mod AnnexD
+pub mod Refused
+pub mod Bounds
+pub mod Due
+pub mod Held
+pub mod Reader

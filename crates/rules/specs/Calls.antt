@@ -1,0 +1,74 @@
+-- The public calls of the card with their raw inputs, and what they answer.
+use Prim.Native.Nat.{ℕ}
+use mathlib.Core.Bool.{Bool, false}
+use mathlib.Core.List.{List, []}
+use lib.IntN.{ℤ}
+use Rattle.rules.specs.declared.Request.{Request}
+use Rattle.rules.specs.declared.Marks.{Marks}
+use Rattle.rules.specs.Holds.{Model}
+use Rattle.rules.specs.Arrivals.{noMarks}
+
+-- The calls, by what they touch. An applet is any number, an event value any signed number, bytes any bytes.
+pub data AdminCall : Type 0 where
+  install : (applet : ℕ) → Request → AdminCall
+  delete lock unlock : (applet : ℕ) → AdminCall
+
+pub data EventCall : Type 0 where
+  setEvent clearEvent askEvent : (applet : ℕ) (value : ℤ) → EventCall
+
+pub data EntryCall : Type 0 where
+  newEntry : (applet : ℕ) (help : Bool) (text : List ℕ) → EntryCall
+  changeEntry : (applet identifier : ℕ) (help : Bool) (text : List ℕ) → EntryCall
+  enableEntry disableEntry : (applet identifier : ℕ) → EntryCall
+
+pub data TimerCall : Type 0 where
+  allocate : (applet : ℕ) → TimerCall
+  release : (applet timer : ℕ) → TimerCall
+
+pub data ArrivalCall : Type 0 where
+  envelope profile : (bytes : List ℕ) → ArrivalCall
+
+pub data ProactiveCall : Type 0 where
+  send : (applet : ℕ) (bytes : List ℕ) → ProactiveCall
+  response : ProactiveCall
+
+pub data Call : Type 0 where
+  admin : AdminCall → Call
+  event : EventCall → Call
+  entry : EntryCall → Call
+  timer : TimerCall → Call
+  arrival : ArrivalCall → Call
+  settled : Call
+  proactive : ProactiveCall → Call
+  systemCommand : (buffer : List ℕ) → Call
+
+-- An answer: the refusal's number (0: accepted), a number (an identifier, a timer, or the length of a command), a yes or no,
+-- the list of applets called, and the marks.
+pub record Answer : Type 0 where
+  pub refusal : ℕ
+  pub number : ℕ
+  pub says : Bool
+  pub called : List ℕ
+  pub marks : Marks
+
+-- A call's outcome: the card afterwards, the answer, and what stands in the lent buffer (empty where none is lent).
+pub record Outcome : Type 0 where
+  pub after : Model
+  pub answer : Answer
+  pub buffer : List ℕ
+
+-- a refusal's number and no other answer; number 0 is the plain acceptance
+abbrev pub only : ℕ → Answer
+only n = record { refusal = n; number = 0; says = false; called = []; marks = noMarks }
+
+-- accepted, with a number
+abbrev pub numbered : ℕ → Answer
+numbered n = record { refusal = 0; number = n; says = false; called = []; marks = noMarks }
+
+-- accepted, with a yes or no
+abbrev pub saying : Bool → Answer
+saying b = record { refusal = 0; number = 0; says = b; called = []; marks = noMarks }
+
+-- accepted, with those called and the marks
+abbrev pub calling : List ℕ → Marks → Answer
+calling l marks = record { refusal = 0; number = 0; says = false; called = l; marks = marks }

@@ -1,0 +1,125 @@
+-- The structs of src/ as the rules see them. A list stands in an array with its count beside it and zeros behind it, so that
+-- each content has exactly one form: `viewRow` and its like read a struct, `storedRow` and its like give the one that holds it.
+use Prim.Native.Nat.{ℕ, _≤_}
+use mathlib.Core.Path.{_≡_}
+use mathlib.Core.Bool.{false}
+use mathlib.Core.List.{List, [], map}
+use lib.ListN.{length, take}
+use Rattle.lists.specs.Lists.{padded}
+use Rattle.rules.specs.declared.Applet as held-applet
+use Rattle.rules.specs.declared.Row as held-row
+use Rattle.rules.specs.declared.Desk as held-desk
+use Rattle.rules.specs.declared.Item as held-item
+use Rattle.rules.specs.declared.Menu as held-menu
+use Rattle.rules.specs.declared.Applets.{Applets}
+use Rattle.rules.specs.declared.Rows.{Rows}
+use Rattle.rules.specs.Holds.{Applet, Row, Desk}
+use Rattle.rules.specs.Applets.{nobody}
+use Rattle.rules.specs.Rows.{noPair}
+use Rattle.rules.specs.Commands.{Item}
+use Rattle.rules.specs.Beside.{ReadOutcome}
+
+unfoldable pub viewApplet : held-applet.Applet → Applet
+viewApplet x =
+    record {
+      number = x .number;
+      priority = x .priority;
+      limits = record { timers = x .timers; text = x .text; pairs = take (x .entries) (x .pairs) };
+      made = x .made;
+      selectable = x .selectable;
+      events = x .events;
+    }
+
+unfoldable pub storedApplet : Applet → held-applet.Applet
+storedApplet x =
+    record {
+      number = x .number;
+      priority = x .priority;
+      timers = x .limits .timers;
+      entries = length (x .limits .pairs);
+      text = x .limits .text;
+      made = x .made;
+      selectable = x .selectable;
+      pairs = padded 4 noPair (x .limits .pairs);
+      events = x .events;
+    }
+
+-- the applets, in order of installation
+unfoldable pub viewApplets : Applets → List Applet
+viewApplets s = map viewApplet (take (s .count) (s .at))
+
+unfoldable pub storedApplets : List Applet → Applets
+storedApplets l = record { at = padded 8 (storedApplet nobody) (map storedApplet l); count = length l }
+
+-- the table stands in its one form
+pub record TidyApplets (s : Applets) : Type 0 where
+  pub few : s .count ≤ 8
+  pub form : s ≡ storedApplets (viewApplets s)
+
+unfoldable pub viewRow : held-row.Row → Row
+viewRow r =
+    record { identifier = r .identifier; owner = r .owner; text = take (r .len) (r .text); help = r .help; enabled = r .enabled }
+
+unfoldable pub storedRow : Row → held-row.Row
+storedRow r =
+    record {
+      identifier = r .identifier;
+      owner = r .owner;
+      help = r .help;
+      enabled = r .enabled;
+      text = padded 15 0 (r .text);
+      len = length (r .text);
+    }
+
+abbrev pub noRow : Row
+noRow = record { identifier = 0; owner = 0; text = []; help = false; enabled = false }
+
+-- the menu list
+unfoldable pub viewRows : Rows → List Row
+viewRows s = map viewRow (take (s .count) (s .at))
+
+unfoldable pub storedRows : List Row → Rows
+storedRows l = record { at = padded 12 (storedRow noRow) (map storedRow l); count = length l }
+
+-- the table stands in its one form
+pub record TidyRows (s : Rows) : Type 0 where
+  pub few : s .count ≤ 12
+  pub form : s ≡ storedRows (viewRows s)
+
+unfoldable pub viewDesk : held-desk.Desk → Desk
+viewDesk d =
+    record {
+      title = take (d .«title_len») (d .title);
+      profile = d .profile;
+      session = d .session;
+      outstanding = d .outstanding;
+      menuDue = d .«menu_due»;
+      eventsDue = d .«events_due»;
+    }
+
+unfoldable pub storedDesk : Desk → held-desk.Desk
+storedDesk d =
+    record {
+      title = padded 20 0 (d .title);
+      «title_len» = length (d .title);
+      profile = d .profile;
+      session = d .session;
+      outstanding = d .outstanding;
+      «menu_due» = d .menuDue;
+      «events_due» = d .eventsDue;
+    }
+
+-- the same for what the menu reader hands back
+unfoldable pub storedItem : Item → held-item.Item
+storedItem i = record { identifier = i .identifier; text = padded 15 0 (i .text); len = length (i .text) }
+
+unfoldable pub storedMenu : ReadOutcome → held-menu.Menu
+storedMenu o =
+    record {
+      refusal = o .refusal;
+      title = padded 20 0 (o .menu .title);
+      «title_len» = length (o .menu .title);
+      help = o .menu .help;
+      at = padded 12 (storedItem (record { identifier = 0; text = [] })) (map storedItem (o .menu .items));
+      count = length (o .menu .items);
+    }

@@ -1,0 +1,151 @@
+-- One call on the card: what it changes, what it answers, and that a refusal changes nothing.
+use Prim.Native.Nat.{ℕ, zero, suc}
+use mathlib.Core.Bool.{Bool, true, false, not}
+use mathlib.Core.List.{List, [], _∷_, _++_, map}
+use lib.ListN.{length, drop}
+use Rattle.lists.specs.Lists.{keep, change}
+use Rattle.rules.specs.Holds.{Applet, Tables, Desk, Model, withApplets, withRows, withTimers, withSelectable, withOneMore}
+use Rattle.rules.specs.Events.{kindOf}
+use Rattle.rules.specs.Envelopes.{envelopeOf}
+use Rattle.rules.specs.Applets.{hasNumber, applet, newcomer, forget, register, isRegistered, usedUp}
+use Rattle.rules.specs.Rows.{withEntry, nextIdentifier, withText, withEnabled, withoutRows}
+use Rattle.rules.specs.Timers.{lowestFree, withAllocated, withReleased, withoutTimers}
+use Rattle.rules.specs.Arrivals.{called, arrivalOf, profileArrival, settledArrival, envelopeMarks, proactiveOnly}
+use Rattle.rules.specs.Desk.{marked, withProfile, withOutstanding, withHandedOut, dueCommand}
+use Rattle.rules.specs.Calls.{Answer, Outcome, only, numbered, saying, calling}
+use Rattle.rules.specs.Calls.{Call, admin, event, entry, timer, arrival, settled, proactive, systemCommand}
+use Rattle.rules.specs.Calls.{AdminCall, install, delete, lock, unlock, EventCall, setEvent, clearEvent, askEvent}
+use Rattle.rules.specs.Calls.{EntryCall, newEntry, changeEntry, enableEntry, disableEntry, TimerCall, allocate, release}
+use Rattle.rules.specs.Calls.{ArrivalCall, envelope, profile, ProactiveCall, send, response}
+use Rattle.rules.specs.Refusals.{refusal}
+
+-- What an accepted call leaves of the tables.
+unfoldable pub adminTables : Tables → AdminCall → Tables
+adminTables t (install n r) = withApplets t (t .applets ++ newcomer n r ∷ [])
+adminTables t (delete n) =
+    record {
+      bounds = t .bounds;
+      applets = keep (λ (x : Applet). not (hasNumber n x)) (t .applets);
+      rows = withoutRows n (t .rows);
+      timers = withoutTimers n (t .timers);
+      control = forget n (t .control);
+    }
+adminTables t (lock n) = withApplets t (change (hasNumber n) (withSelectable false) (t .applets))
+adminTables t (unlock n) = withApplets t (change (hasNumber n) (withSelectable true) (t .applets))
+
+unfoldable pub eventTables : Tables → EventCall → Tables
+eventTables t (setEvent n v) = register t n (kindOf v) true
+eventTables t (clearEvent n v) = register t n (kindOf v) false
+eventTables t (askEvent n v) = t
+
+unfoldable pub entryTables : Tables → EntryCall → Tables
+entryTables t (newEntry n help text) =
+    withApplets (withRows t (withEntry (applet t n) help text (t .rows))) (change (hasNumber n) withOneMore (t .applets))
+entryTables t (changeEntry n i help text) = withRows t (withText i help text (t .rows))
+entryTables t (enableEntry n i) = withRows t (withEnabled i true (t .rows))
+entryTables t (disableEntry n i) = withRows t (withEnabled i false (t .rows))
+
+unfoldable pub timerTables : Tables → TimerCall → Tables
+timerTables t (allocate n) = withTimers t (withAllocated (t .timers) n)
+timerTables t (release n k) = withTimers t (withReleased (t .timers) k)
+
+-- settled unregisters just those it calls
+unfoldable pub tablesAfter : Tables → Call → Tables
+tablesAfter t (admin c) = adminTables t c
+tablesAfter t (event c) = eventTables t c
+tablesAfter t (entry c) = entryTables t c
+tablesAfter t (timer c) = timerTables t c
+tablesAfter t (arrival c) = t
+tablesAfter t settled = withApplets t (map usedUp (t .applets))
+tablesAfter t (proactive c) = t
+tablesAfter t (systemCommand buffer) = t
+
+-- What an accepted call leaves of the desk, but for the marks of what it changes.
+unfoldable pub arrivalDesk : Model → ArrivalCall → Desk
+arrivalDesk m (envelope bytes) = m .desk
+arrivalDesk m (profile bytes) = withProfile (m .tables) bytes (m .desk)
+
+unfoldable pub proactiveDesk : Desk → ProactiveCall → Desk
+proactiveDesk d (send n bytes) = withOutstanding true d
+proactiveDesk d response = withOutstanding false d
+
+unfoldable pub deskAfter : Model → Call → Desk
+deskAfter m (admin c) = m .desk
+deskAfter m (event c) = m .desk
+deskAfter m (entry c) = m .desk
+deskAfter m (timer c) = m .desk
+deskAfter m (arrival c) = arrivalDesk m c
+deskAfter m settled = m .desk
+deskAfter m (proactive c) = proactiveDesk (m .desk) c
+deskAfter m (systemCommand buffer) = withHandedOut (m .desk)
+
+-- The card after an accepted call.
+unfoldable pub changed : Model → Call → Model
+changed m c =
+    record { tables = tablesAfter (m .tables) c; desk = marked (m .tables) (tablesAfter (m .tables) c) (deskAfter m c) }
+
+-- What an accepted call answers.
+unfoldable pub eventAnswer : Tables → EventCall → Answer
+eventAnswer t (setEvent n v) = only 0
+eventAnswer t (clearEvent n v) = only 0
+eventAnswer t (askEvent n v) = saying (isRegistered t n (kindOf v))
+
+unfoldable pub entryAnswer : Tables → EntryCall → Answer
+entryAnswer t (newEntry n help text) = numbered (nextIdentifier (applet t n) (t .rows))
+entryAnswer t (changeEntry n i help text) = only 0
+entryAnswer t (enableEntry n i) = only 0
+entryAnswer t (disableEntry n i) = only 0
+
+unfoldable pub timerAnswer : Tables → TimerCall → Answer
+timerAnswer t (allocate n) = numbered (lowestFree (t .timers))
+timerAnswer t (release n k) = only 0
+
+unfoldable pub arrivalAnswer : Model → ArrivalCall → Answer
+arrivalAnswer m (envelope bytes) =
+    calling (called (m .tables) (arrivalOf (envelopeOf bytes))) (envelopeMarks (m .desk .outstanding) (envelopeOf bytes))
+arrivalAnswer m (profile bytes) = calling (called (m .tables) profileArrival) proactiveOnly
+
+unfoldable pub answer : Model → Call → Answer
+answer m (admin c) = only 0
+answer m (event c) = eventAnswer (m .tables) c
+answer m (entry c) = entryAnswer (m .tables) c
+answer m (timer c) = timerAnswer (m .tables) c
+answer m (arrival c) = arrivalAnswer m c
+answer m settled = calling (called (m .tables) settledArrival) proactiveOnly
+answer m (proactive c) = only 0
+answer m (systemCommand buffer) = numbered (length (dueCommand (m .tables) (m .desk)))
+
+-- the buffer that a call is lent; empty where there is none
+unfoldable pub lent : Call → List ℕ
+lent (admin c) = []
+lent (event c) = []
+lent (entry c) = []
+lent (timer c) = []
+lent (arrival c) = []
+lent settled = []
+lent (proactive c) = []
+lent (systemCommand buffer) = buffer
+
+-- the bytes stand at the front of the buffer, and the rest of it is left
+unfoldable pub front : (bytes buffer : List ℕ) → List ℕ
+front bytes buffer = bytes ++ drop (length bytes) buffer
+
+-- what stands in the lent buffer after an accepted call
+unfoldable pub written : Model → Call → List ℕ
+written m (admin c) = []
+written m (event c) = []
+written m (entry c) = []
+written m (timer c) = []
+written m (arrival c) = []
+written m settled = []
+written m (proactive c) = []
+written m (systemCommand buffer) = front (dueCommand (m .tables) (m .desk)) buffer
+
+-- Every refusal returns its number and no other answer and changes nothing, neither the card nor one byte of a lent buffer.
+unfoldable pub outcome : (refusal : ℕ) → Model → Call → Outcome
+outcome zero m c = record { after = changed m c; answer = answer m c; buffer = written m c }
+outcome (suc n) m c = record { after = m; answer = only (suc n); buffer = lent c }
+
+-- ONE CALL ON THE CARD.
+unfoldable pub step : Model → Call → Outcome
+step m c = outcome (refusal m c) m c
