@@ -1,0 +1,178 @@
+-- What an accepted call leaves of an applet that is looked up by its number.
+-- Assumes nothing.
+use Prim.Native.Nat.{ℕ}
+use mathlib.Core.Path.{_≡_, refl, ap, _∙_}
+use mathlib.Core.Bool.{Bool, true, false}
+use mathlib.Core.List.{List, [], _∷_, _++_, map}
+use Rattle.lists.specs.Tests.{if_then_else_, _==_}
+use Rattle.lists.specs.Lists.{Every, some?, first, change}
+use Rattle.lists.proofs.Every.{every-so, every-map}
+use Rattle.lists.proofs.Order.{every-changes}
+use Rattle.lists.proofs.Ifs.{if-holds}
+use Rattle.lists.proofs.Times.{if-same, if-map}
+use Rattle.lists.proofs.Keyed.{first-more, first-map, first-change, keys-map, keys-change}
+use Rattle.rules.specs.declared.Kind.{Kind}
+use Rattle.rules.specs.declared.Kind.the-variants.{Event, Issuer, Reserved, Unsupported}
+use Rattle.rules.specs.declared.Request.{Request}
+use Rattle.rules.specs.Holds.{Applet, Tables, Model, withApplets, withControl, withEvent, withOneMore}
+use Rattle.rules.specs.Events.{callControl, handlerAvailable, kindOf}
+use Rattle.rules.specs.Applets.{hasNumber, nobody, present, applet, newcomer, forget, register, withRegistration, usedUp}
+use Rattle.rules.specs.Calls.{event, entry, EventCall, setEvent, clearEvent, askEvent, EntryCall, newEntry, changeEntry, enableEntry, disableEntry}
+use Rattle.rules.specs.Step.{eventTables, entryTables}
+use Rattle.rules.specs.Refusals.{eventLines, lines, refusal}
+use Rattle.runs.proofs.Accepted.{accepted as none-holds}
+use Rattle.runs.proofs.Filled.{is-here, new-entry}
+use Rattle.history.proofs.Agree.{numberOf}
+
+-- the applets with one more, with one gone, with one changed, with each changed
+pub with-more : (t : Tables) (m : ℕ) (r : Request) (n : ℕ) → present t m ≡ false
+    → applet (withApplets t (t .applets ++ newcomer m r ∷ [])) n ≡ (if m == n then newcomer m r else applet t n)
+unfolding applet present newcomer
+with-more t m r n h = first-more numberOf nobody n (t .applets) (newcomer m r) h
+
+module _ (l : List Applet) (f : Applet → Applet) (same : (x : Applet) → f x .number ≡ x .number) where
+  pub with-changed : (m n : ℕ) → some? (hasNumber m) l ≡ true
+      → first (hasNumber n) nobody (change (hasNumber m) f l) ≡ (if m == n then f (first (hasNumber n) nobody l) else first (hasNumber n) nobody l)
+  with-changed m n h = first-change numberOf nobody f same n m l h
+
+  -- what f leaves, the change leaves
+  pub with-kept : {B : Type 0} (g : Applet → B) → ((x : Applet) → g (f x) ≡ g x) → (m n : ℕ) → some? (hasNumber m) l ≡ true
+      → g (first (hasNumber n) nobody (change (hasNumber m) f l)) ≡ g (first (hasNumber n) nobody l)
+  with-kept g k m n h =
+      ap g (with-changed m n h)
+      ∙ if-map g (m == n) (f (first (hasNumber n) nobody l)) (first (hasNumber n) nobody l)
+      ∙ ap (λ x. if m == n then x else g (first (hasNumber n) nobody l)) (k (first (hasNumber n) nobody l))
+      ∙ if-same (m == n) (g (first (hasNumber n) nobody l))
+
+-- a settled moment leaves what the registration of the one-shot leaves
+pub used-kept : {B : Type 0} (g : Applet → B) → ((b : Bool) (x : Applet) → g (withEvent handlerAvailable b x) ≡ g x) → (x : Applet)
+    → g (usedUp x) ≡ g x
+unfolding usedUp
+used-kept g k x = if-holds (λ y. g y ≡ g x) (x .selectable) (λ h. search k) (λ h. search k)
+
+pub with-used : (l : List Applet) (n : ℕ) → first (hasNumber n) nobody (map usedUp l) ≡ usedUp (first (hasNumber n) nobody l)
+unfolding usedUp
+with-used l n = first-map numberOf nobody usedUp (used-kept numberOf (λ b x. refl)) refl n l
+
+-- The calls on registrations.
+registered-kept : {B : Type 0} (g : Applet → B) → ((e : ℕ) (b : Bool) (x : Applet) → g (withEvent e b x) ≡ g x)
+    → (t : Tables) (m n : ℕ) (k : Kind) (b : Bool) → present t m ≡ true → g (applet (register t m k b) n) ≡ g (applet t n)
+unfolding register withRegistration applet present
+registered-kept g w t m n (Event e) b h = go (e == callControl)
+  where
+    go : (c : Bool)
+        → g (first (hasNumber n) nobody ((if c then withControl t (if b then m else forget m (t .control)) else withApplets t (change (hasNumber m) (withEvent e b) (t .applets))) .applets)) ≡ g (first (hasNumber n) nobody (t .applets))
+    go true = refl
+    go false = with-kept (t .applets) (withEvent e b) (λ x. refl) g (w e b) m n h
+registered-kept g w t m n Issuer b h = refl
+registered-kept g w t m n Reserved b h = refl
+registered-kept g w t m n Unsupported b h = refl
+
+pub event-kept : {B : Type 0} (g : Applet → B) → ((e : ℕ) (b : Bool) (x : Applet) → g (withEvent e b x) ≡ g x)
+    → (m : Model) (n : ℕ) (c : EventCall) → refusal m (event c) ≡ 0
+    → g (applet (eventTables (m .tables) c) n) ≡ g (applet (m .tables) n)
+unfolding eventTables eventLines lines Every
+event-kept g w m n (setEvent b v) ok = registered-kept g w (m .tables) b n (kindOf v) true (is-here (m .tables) b (none-holds m (event (setEvent b v)) ok .0))
+event-kept g w m n (clearEvent b v) ok = registered-kept g w (m .tables) b n (kindOf v) false (is-here (m .tables) b (none-holds m (event (clearEvent b v)) ok .0))
+event-kept g w m n (askEvent b v) ok = refl
+
+-- The calls on menu entries.
+pub entry-kept : {B : Type 0} (g : Applet → B) → ((x : Applet) → g (withOneMore x) ≡ g x) → (m : Model) (n : ℕ) (c : EntryCall)
+    → refusal m (entry c) ≡ 0 → g (applet (entryTables (m .tables) c) n) ≡ g (applet (m .tables) n)
+unfolding entryTables applet present
+entry-kept g w m n (newEntry b help text) ok = with-kept (m .tables .applets) withOneMore (λ x. refl) g w b n (new-entry m b help text ok .here)
+entry-kept g w m n (changeEntry b i help text) ok = refl
+entry-kept g w m n (enableEntry b i) ok = refl
+entry-kept g w m n (disableEntry b i) ok = refl
+
+-- What holds of each applet, and that a registration, an entry or a settled moment leaves, still does.
+module _ (P : Applet → Type 0) where
+  registered-each : ((e : ℕ) (b : Bool) (x : Applet) → P x → P (withEvent e b x)) → (t : Tables) (m : ℕ) (k : Kind) (b : Bool)
+      → Every P (t .applets) → Every P (register t m k b .applets)
+  unfolding register withRegistration
+  registered-each w t m (Event e) b i = go (e == callControl)
+    where
+      go : (c : Bool)
+          → Every P ((if c then withControl t (if b then m else forget m (t .control)) else withApplets t (change (hasNumber m) (withEvent e b) (t .applets))) .applets)
+      go true = i
+      go false = every-changes P (hasNumber m) (withEvent e b) (w e b) (t .applets) i
+  registered-each w t m Issuer b i = i
+  registered-each w t m Reserved b i = i
+  registered-each w t m Unsupported b i = i
+
+  pub event-each : ((e : ℕ) (b : Bool) (x : Applet) → P x → P (withEvent e b x)) → (t : Tables) (c : EventCall)
+      → Every P (t .applets) → Every P (eventTables t c .applets)
+  unfolding eventTables
+  event-each w t (setEvent m v) i = registered-each w t m (kindOf v) true i
+  event-each w t (clearEvent m v) i = registered-each w t m (kindOf v) false i
+  event-each w t (askEvent m v) i = i
+
+  pub entry-each : ((x : Applet) → P x → P (withOneMore x)) → (t : Tables) (c : EntryCall) → Every P (t .applets)
+      → Every P (entryTables t c .applets)
+  unfolding entryTables
+  entry-each w t (newEntry m help text) i = every-changes P (hasNumber m) withOneMore w (t .applets) i
+  entry-each w t (changeEntry m j help text) i = i
+  entry-each w t (enableEntry m j) i = i
+  entry-each w t (disableEntry m j) i = i
+
+  pub used-each : ((b : Bool) (x : Applet) → P x → P (withEvent handlerAvailable b x)) → (l : List Applet) → Every P l
+      → Every P (map usedUp l)
+  unfolding usedUp
+  used-each w l i =
+      every-map P usedUp l (every-so P _ (λ x p. if-holds P (x .selectable) (λ h. search (w, p)) (λ h. search (w, p))) l i)
+
+-- The numbers, where none is installed or deleted.
+registered-numbers : (t : Tables) (m : ℕ) (k : Kind) (b : Bool)
+    → map numberOf (register t m k b .applets) ≡ map numberOf (t .applets)
+unfolding register withRegistration
+registered-numbers t m (Event e) b = go (e == callControl)
+  where
+    go : (c : Bool)
+        → map numberOf ((if c then withControl t (if b then m else forget m (t .control)) else withApplets t (change (hasNumber m) (withEvent e b) (t .applets))) .applets) ≡ map numberOf (t .applets)
+    go true = refl
+    go false = keys-change numberOf nobody (withEvent e b) (λ x. refl) (hasNumber m) (t .applets)
+registered-numbers t m Issuer b = refl
+registered-numbers t m Reserved b = refl
+registered-numbers t m Unsupported b = refl
+
+pub event-numbers : (t : Tables) (c : EventCall) → map numberOf (eventTables t c .applets) ≡ map numberOf (t .applets)
+unfolding eventTables
+event-numbers t (setEvent m v) = registered-numbers t m (kindOf v) true
+event-numbers t (clearEvent m v) = registered-numbers t m (kindOf v) false
+event-numbers t (askEvent m v) = refl
+
+pub entry-numbers : (t : Tables) (c : EntryCall) → map numberOf (entryTables t c .applets) ≡ map numberOf (t .applets)
+unfolding entryTables
+entry-numbers t (newEntry m help text) = keys-change numberOf nobody withOneMore (λ x. refl) (hasNumber m) (t .applets)
+entry-numbers t (changeEntry m i help text) = refl
+entry-numbers t (enableEntry m i) = refl
+entry-numbers t (disableEntry m i) = refl
+
+pub used-numbers : (l : List Applet) → map numberOf (map usedUp l) ≡ map numberOf l
+used-numbers l = keys-map numberOf nobody usedUp (used-kept numberOf (λ b x. refl)) l
+
+-- The rows and the timers, where applets only register.
+module _ {B : Type 0} (g : Tables → B) (a : (t : Tables) (l : List Applet) → g (withApplets t l) ≡ g t) (c : (t : Tables) (o : ℕ) → g (withControl t o) ≡ g t) where
+  registered-same : (t : Tables) (m : ℕ) (k : Kind) (b : Bool) → g (register t m k b) ≡ g t
+  unfolding register withRegistration
+  registered-same t m (Event e) b = go (e == callControl)
+    where
+      go : (x : Bool)
+          → g (if x then withControl t (if b then m else forget m (t .control)) else withApplets t (change (hasNumber m) (withEvent e b) (t .applets))) ≡ g t
+      go true = c t _
+      go false = a t _
+  registered-same t m Issuer b = refl
+  registered-same t m Reserved b = refl
+  registered-same t m Unsupported b = refl
+
+  pub event-same : (t : Tables) (c : EventCall) → g (eventTables t c) ≡ g t
+  unfolding eventTables
+  event-same t (setEvent m v) = registered-same t m (kindOf v) true
+  event-same t (clearEvent m v) = registered-same t m (kindOf v) false
+  event-same t (askEvent m v) = refl
+
+pub event-timers : (t : Tables) (c : EventCall) → eventTables t c .timers ≡ t .timers
+event-timers t c = event-same (λ t. t .timers) (λ t l. refl) (λ t o. refl) t c
+
+pub event-rows : (t : Tables) (c : EventCall) → eventTables t c .rows ≡ t .rows
+event-rows t c = event-same (λ t. t .rows) (λ t l. refl) (λ t o. refl) t c

@@ -1,0 +1,90 @@
+-- The desk: a session has begun, and a command is outstanding, as the history names it.
+-- Assumes nothing.
+use mathlib.Core.Path.{_≡_, refl, ap, _∙_}
+use mathlib.Core.Bool.{Bool, true, false, not, _||_}
+use mathlib.Core.List.{[], _∷_}
+use lib.ListN.{length}
+use lib.Dec.{eqb·suc-zero}
+use Rattle.lists.specs.Tests.{if_then_else_, _==_}
+use Rattle.lists.specs.Lists.{some?}
+use Rattle.rules.specs.Holds.{Tables, Desk, Model}
+use Rattle.rules.specs.Commands.{menuBytes, eventBytes, commandBytes, menuOf, shownMenu, shownEvents}
+use Rattle.rules.specs.Desk.{marked, withProfile, withHandedOut, dueCommand, withMarks, menuChanges, eventsChange}
+use Rattle.rules.specs.Calls.{Call, admin, event, entry, timer, arrival, settled, proactive, systemCommand, envelope, profile, send, response}
+use Rattle.rules.specs.Step.{arrivalDesk, proactiveDesk, deskAfter, tablesAfter, changed, answer}
+use Rattle.history.specs.Histories.{History}
+use Rattle.history.specs.Named.{inSession, isOutstanding}
+use Rattle.history.proofs.Open.{reading}
+use Rattle.history.proofs.Agree.{AgreeDesk, did}
+
+-- the due marks leave the session and what is outstanding
+marks-leave : {B : Type 0} (g : Desk → B) → ((d : Desk) (m e : Bool) → g (withMarks d (d .outstanding) m e) ≡ g d)
+    → (before after : Tables) (d : Desk) → g (marked before after d) ≡ g d
+unfolding marked
+marks-leave g k before after d = go (d .session)
+  where
+    go : (b : Bool)
+        → g (if b then withMarks d (d .outstanding) (d .menuDue || menuChanges before after) (d .eventsDue || eventsChange before after) else d) ≡ g d
+    go true = k d _ _
+    go false = refl
+
+-- a command that is due is handed out, and has a length
+handed-out : (t : Tables) (d : Desk)
+    → withHandedOut d .outstanding ≡ (if not (length (dueCommand t d) == 0) then true else d .outstanding)
+unfolding withHandedOut dueCommand menuBytes eventBytes commandBytes
+handed-out t d = go (d .menuDue) (d .eventsDue)
+  where
+    go : (a b : Bool)
+        → (if a then withMarks d true false (d .eventsDue) else if b then withMarks d true false false else d) .outstanding ≡ (if not (length (if a then menuBytes (menuOf (d .title) (shownMenu t)) else if b then eventBytes (shownEvents t) else []) == 0) then true else d .outstanding)
+    go true b = rw (eqb·suc-zero _) refl
+    go false true = rw (eqb·suc-zero _) refl
+    go false false = refl
+
+session-after : (m : Model) (h : History) (c : Call) → AgreeDesk (m .desk) h
+    → deskAfter m c .session ≡ inSession (did c (answer m c) ∷ h)
+unfolding deskAfter arrivalDesk proactiveDesk withProfile withHandedOut inSession some? reading
+session-after m h (admin c) g = g .session
+session-after m h (event c) g = g .session
+session-after m h (entry c) g = g .session
+session-after m h (timer c) g = g .session
+session-after m h (arrival (envelope bytes)) g = g .session
+session-after m h (arrival (profile bytes)) g = refl
+session-after m h settled g = g .session
+session-after m h (proactive (send n bytes)) g = g .session
+session-after m h (proactive response) g = g .session
+session-after m h (systemCommand buffer) g = go (m .desk .menuDue) (m .desk .eventsDue) ∙ g .session
+  where
+    go : (a b : Bool)
+        → (if a then withMarks (m .desk) true false (m .desk .eventsDue) else if b then withMarks (m .desk) true false false else m .desk) .session ≡ m .desk .session
+    go true b = refl
+    go false true = refl
+    go false false = refl
+
+outstanding-after : (m : Model) (h : History) (c : Call) → AgreeDesk (m .desk) h
+    → deskAfter m c .outstanding ≡ isOutstanding (did c (answer m c) ∷ h)
+unfolding deskAfter arrivalDesk proactiveDesk withProfile answer isOutstanding reading
+outstanding-after m h (admin c) g = g .outstanding
+outstanding-after m h (event c) g = g .outstanding
+outstanding-after m h (entry c) g = g .outstanding
+outstanding-after m h (timer c) g = g .outstanding
+outstanding-after m h (arrival (envelope bytes)) g = g .outstanding
+outstanding-after m h (arrival (profile bytes)) g = refl
+outstanding-after m h settled g = g .outstanding
+outstanding-after m h (proactive (send n bytes)) g = refl
+outstanding-after m h (proactive response) g = refl
+outstanding-after m h (systemCommand buffer) g =
+    handed-out (m .tables) (m .desk)
+    ∙ ap (λ (z : Bool). if not (length (dueCommand (m .tables) (m .desk)) == 0) then true else z) (g .outstanding)
+
+pub desk-kept : (m : Model) (h : History) (c : Call) → AgreeDesk (m .desk) h
+    → AgreeDesk (changed m c .desk) (did c (answer m c) ∷ h)
+unfolding changed
+desk-kept m h c g =
+    record {
+      session =
+          marks-leave (λ d. d .session) (λ d x y. refl) (m .tables) (tablesAfter (m .tables) c) (deskAfter m c)
+          ∙ session-after m h c g;
+      outstanding =
+          marks-leave (λ d. d .outstanding) (λ d x y. refl) (m .tables) (tablesAfter (m .tables) c) (deskAfter m c)
+          ∙ outstanding-after m h c g;
+    }

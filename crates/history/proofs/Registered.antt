@@ -1,0 +1,237 @@
+-- Registrations: each event that is kept applet by applet, the one-shot among them, and call control.
+-- Assumes nothing.
+use Prim.Native.Nat.{ℕ, suc, _+_, _≤_, _<_}
+use native.Mathlib.Omega.{arith}
+use mathlib.Core.Path.{_≡_, refl, sym, ap, _∙_}
+use mathlib.Core.Bool.{Bool, true, false, not, _&&_}
+use mathlib.Core.List.{List, [], _∷_}
+use lib.IntN.{ℤ}
+use lib.Signed.{ltZ}
+use lib.ListN.{length, getD}
+use borrow.Author.Tests.{eqb-true, eqb-false, ne-eqb}
+use Rattle.lists.specs.Tests.{if_then_else_, _==_}
+use Rattle.lists.specs.Lists.{Every, first, change}
+use Rattle.lists.proofs.Decided.{clashing, turned}
+use Rattle.lists.proofs.Times.{if-map}
+use Rattle.lists.proofs.Places.{getD-set, getD-blank}
+use Rattle.lists.proofs.Keyed.{first-less}
+use Rattle.rules.specs.declared.Kind.{Kind}
+use Rattle.rules.specs.declared.Kind.the-variants.{Event, Issuer, Reserved, Unsupported}
+use Rattle.rules.specs.Holds.{Applet, Tables, withApplets, withControl, withEvent, withSelectable}
+use Rattle.rules.specs.Events.{callControl, handlerAvailable, minus, equal?, values, named, kindOf, isControl}
+use Rattle.rules.specs.Applets.{hasNumber, nobody, present, applet, newcomer, forget, ownedByAnother, register, withRegistration, usedUp}
+use Rattle.rules.specs.Calls.{admin, event, entry, timer, arrival, settled, proactive, systemCommand, install, delete, lock, unlock, setEvent, clearEvent, askEvent, newEntry, changeEntry, enableEntry, disableEntry, allocate, release}
+use Rattle.rules.specs.Refusals.{adminLines, eventLines, lines}
+use Rattle.rules.specs.Step.{adminTables, eventTables, entryTables, timerTables, tablesAfter}
+use Rattle.runs.specs.Sound.{SoundTables}
+use Rattle.runs.proofs.Accepted.{accepted as none-holds}
+use Rattle.runs.proofs.Filled.{is-here}
+use Rattle.runs.proofs.Filled as filled
+use Rattle.runs.proofs.Looked.{sound-applet, absent-nobody}
+use Rattle.history.specs.Deeds.{isEvent}
+use Rattle.history.specs.Named.{usesUp, isRegistered}
+use Rattle.history.proofs.Open.{reading}
+use Rattle.history.proofs.Agree.{numberOf, Kept}
+use Rattle.history.proofs.Applets.{with-more, with-changed, with-kept, with-used, entry-kept}
+use Rattle.history.proofs.Present.{or-none}
+
+-- a mark that the entry does not set stays
+nothing-marked : (b v y : Bool) → y ≡ (if b && false then v else y)
+nothing-marked true v y = refl
+nothing-marked false v y = refl
+
+-- The events of document 01 have places below 20, and so has what an applet keeps.
+named-below : (e : ℕ) (l : List ℤ) (v : ℤ) (f : ℕ) → named e l v ≡ Event f → f < e + length l
+unfolding named
+named-below e [] v f q = let z : _≡_ {A = ℕ} 0 1 = cc in absurd (omega arith)
+named-below e (z ∷ l) v f q = go (equal? v z) q (λ r. named-below (suc e) l v f r)
+  where
+    go : (b : Bool) → (if b then Event e else named (suc e) l v) ≡ Event f → (named (suc e) l v ≡ Event f → f < suc e + length l)
+        → f < e + suc (length l)
+    go true r i = let z : e ≡ f = cc in omega arith
+    go false r i = omega (arith, i r)
+
+below : (v : ℤ) (f : ℕ) → kindOf v ≡ Event f → f < 20
+unfolding kindOf values
+below v f q = go (ltZ v (minus 128)) (ltZ v (minus 64)) q
+  where
+    go : (a b : Bool) → (if a then Reserved else if b then Issuer else named 0 values v) ≡ Event f → f < 20
+    go true b r = let z : _≡_ {A = ℕ} 0 1 = cc in absurd (omega arith)
+    go false true r = let z : _≡_ {A = ℕ} 0 1 = cc in absurd (omega arith)
+    go false false r = let z : length values ≡ 20 = refl in omega (arith, named-below 0 values v f r)
+
+twenty : (t : Tables) → SoundTables t → (n : ℕ) → length (applet t n .events) ≡ 20
+twenty t s n = go (present t n) refl
+  where
+    go : (b : Bool) → present t n ≡ b → length (applet t n .events) ≡ 20
+    go true q = sound-applet t s n q .events
+    go false q = ap (λ (x : Applet). length (x .events)) (absent-nobody t n q)
+
+-- a registration that is set, or cleared, for what a value names
+marked : (b c v y : Bool) → (if b then (if c then v else y) else y) ≡ (if b && c then v else y)
+marked true c v y = refl
+marked false c v y = refl
+
+register-seen : (t : Tables) → ((n : ℕ) → length (applet t n .events) ≡ 20) → (m n e : ℕ) (k : Kind) (v : Bool) → present t m ≡ true
+    → ((f : ℕ) → k ≡ Event f → f < 20) → (e == callControl) ≡ false
+    → getD (applet (register t m k v) n .events) e false ≡ (if m == n && isEvent e k then v else getD (applet t n .events) e false)
+unfolding register withRegistration applet present isEvent
+register-seen t l m n e (Event f) v h b q = go (f == callControl) refl
+  where
+    events : List Bool
+    events = first (hasNumber n) nobody (t .applets) .events
+
+    control : (f == callControl) ≡ true → (f == e) ≡ false
+    control r = ne-eqb f e (λ z. eqb-false e callControl q (sym z ∙ eqb-true f callControl r))
+
+    go : (c : Bool) → (f == callControl) ≡ c
+        → getD (first (hasNumber n) nobody ((if c then withControl t (if v then m else forget m (t .control)) else withApplets t (change (hasNumber m) (withEvent f v) (t .applets))) .applets) .events) e false ≡ (if m == n && f == e then v else getD events e false)
+    go true r = rw (control r) (nothing-marked (m == n) v (getD events e false))
+    go false r =
+        ap (λ (x : Applet). getD (x .events) e false) (with-changed (t .applets) (withEvent f v) (λ x. refl) m n h)
+        ∙ if-map (λ (x : Applet). getD (x .events) e false) (m == n) _ (first (hasNumber n) nobody (t .applets))
+        ∙ ap (λ (x : Bool). if m == n then x else getD events e false) (getD-set false events f e v (omega (arith, l n, b f refl)))
+        ∙ marked (m == n) (f == e) v (getD events e false)
+register-seen t l m n e Issuer v h b q = nothing-marked (m == n) v (getD (first (hasNumber n) nobody (t .applets) .events) e false)
+register-seen t l m n e Reserved v h b q = nothing-marked (m == n) v (getD (first (hasNumber n) nobody (t .applets) .events) e false)
+register-seen t l m n e Unsupported v h b q = nothing-marked (m == n) v (getD (first (hasNumber n) nobody (t .applets) .events) e false)
+
+-- what a settled moment leaves of a registration
+used-seen : (x : Applet) (e : ℕ) → length (x .events) ≡ 20
+    → getD (usedUp x .events) e false ≡ (if e == handlerAvailable && x .selectable then false else getD (x .events) e false)
+unfolding usedUp
+used-seen x e l = go (x .selectable)
+  where
+    go : (b : Bool)
+        → getD ((if b then withEvent handlerAvailable false x else x) .events) e false ≡ (if e == handlerAvailable && b then false else getD (x .events) e false)
+    go true =
+        getD-set false (x .events) handlerAvailable e false (omega arith)
+        ∙ rw (turned handlerAvailable e) (sym (plain (e == handlerAvailable) (getD (x .events) e false)))
+      where
+        plain : (c y : Bool) → (if c && true then false else y) ≡ (if c then false else y)
+        plain true y = refl
+        plain false y = refl
+    go false = nothing-marked (e == handlerAvailable) false (getD (x .events) e false)
+
+pub events-kept : Kept (λ t h. (n e : ℕ) → (e == callControl) ≡ false → getD (applet t n .events) e false ≡ isRegistered n e h)
+unfolding tablesAfter adminTables eventTables timerTables applet present newcomer adminLines eventLines lines Every isRegistered usesUp reading
+events-kept m h (admin (install b r)) ok s g n e q =
+    ap (λ (x : Applet). getD (x .events) e false) (with-more (m .tables) b r n (filled.installs m b r ok .new))
+    ∙ if-map (λ (x : Applet). getD (x .events) e false) (b == n) (newcomer b r) (applet (m .tables) n)
+    ∙ go (b == n) refl
+    ∙ g .events n e q
+  where
+    go : (c : Bool) → (b == n) ≡ c
+        → (if c then getD (nobody .events) e false else getD (applet (m .tables) n .events) e false) ≡ getD (applet (m .tables) n .events) e false
+    go true z = ap (λ (x : Applet). getD (x .events) e false) (sym (absent-nobody (m .tables) n (rw (eqb-true b n z) at (filled.installs m b r ok .new))))
+    go false z = refl
+events-kept m h (admin (delete b)) ok s g n e q =
+    ap (λ (x : Applet). getD (x .events) e false) (first-less numberOf nobody n b (m .tables .applets))
+    ∙ if-map (λ (x : Applet). getD (x .events) e false) (b == n) nobody (applet (m .tables) n)
+    ∙ ap (λ (x : Bool). if b == n then x else getD (applet (m .tables) n .events) e false) (getD-blank false 20 e)
+    ∙ ap (λ (x : Bool). if b == n then false else x) (g .events n e q)
+events-kept m h (admin (lock b)) ok s g n e q =
+    with-kept (m .tables .applets) (withSelectable false) (λ x. refl) (λ (x : Applet). getD (x .events) e false) (λ x. refl) b n (is-here (m .tables) b (none-holds m (admin (lock b)) ok .0))
+    ∙ g .events n e q
+events-kept m h (admin (unlock b)) ok s g n e q =
+    with-kept (m .tables .applets) (withSelectable true) (λ x. refl) (λ (x : Applet). getD (x .events) e false) (λ x. refl) b n (is-here (m .tables) b (none-holds m (admin (unlock b)) ok .0))
+    ∙ g .events n e q
+events-kept m h (event (setEvent b v)) ok s g n e q =
+    register-seen (m .tables) (twenty (m .tables) (s .sound .tables)) b n e (kindOf v) true (is-here (m .tables) b (none-holds m (event (setEvent b v)) ok .0)) (below v) q
+    ∙ ap (λ (x : Bool). if b == n && isEvent e (kindOf v) then true else x) (g .events n e q)
+events-kept m h (event (clearEvent b v)) ok s g n e q =
+    register-seen (m .tables) (twenty (m .tables) (s .sound .tables)) b n e (kindOf v) false (is-here (m .tables) b (none-holds m (event (clearEvent b v)) ok .0)) (below v) q
+    ∙ ap (λ (x : Bool). if b == n && isEvent e (kindOf v) then false else x) (g .events n e q)
+    ∙ sym (or-none (b == n && isEvent e (kindOf v)) false (isRegistered n e h))
+events-kept m h (event (askEvent b v)) ok s g n e q = g .events n e q
+events-kept m h (entry c) ok s g n e q =
+    entry-kept (λ (x : Applet). getD (x .events) e false) (λ x. refl) m n c ok
+    ∙ g .events n e q
+events-kept m h (timer (allocate b)) ok s g n e q = g .events n e q
+events-kept m h (timer (release b k)) ok s g n e q = g .events n e q
+events-kept m h (arrival c) ok s g n e q = g .events n e q
+events-kept m h settled ok s g n e q =
+    ap (λ (x : Applet). getD (x .events) e false) (with-used (m .tables .applets) n)
+    ∙ used-seen (applet (m .tables) n) e (twenty (m .tables) (s .sound .tables) n)
+    ∙ rw (g .selectability n, g .events n e q) refl
+events-kept m h (proactive c) ok s g n e q = g .events n e q
+events-kept m h (systemCommand buffer) ok s g n e q = g .events n e q
+
+-- Call control. What was b's is nobody's.
+pub forgotten : (o b n : ℕ) → 1 ≤ n → (forget b o == n) ≡ (if b == n then false else o == n)
+forgotten o b n k = go (o == b) (b == n) refl refl
+  where
+    nobody-not : (0 == n) ≡ false
+    nobody-not = ne-eqb 0 n (λ z. absurd (omega arith))
+
+    go : (x y : Bool) → (o == b) ≡ x → (b == n) ≡ y → ((if x then 0 else o) == n) ≡ (if y then false else o == n)
+    go true true p q = nobody-not
+    go true false p q = nobody-not ∙ sym q ∙ ap (λ (z : ℕ). z == n) (sym (eqb-true o b p))
+    go false true p q = ap (λ (z : ℕ). o == z) (sym (eqb-true b n q)) ∙ p
+    go false false p q = refl
+
+-- one who may set it finds it nobody's or its own
+taken : (t : Tables) (b n : ℕ) → 1 ≤ n → ownedByAnother t b ≡ false → (b == n) ≡ false → (t .control == n) ≡ false
+unfolding ownedByAnother
+taken t b n k = go (t .control == 0) (t .control == b) refl refl
+  where
+    go : (x y : Bool) → (t .control == 0) ≡ x → (t .control == b) ≡ y → (not x && not y) ≡ false → (b == n) ≡ false
+        → (t .control == n) ≡ false
+    go true y p q r z = ap (λ (o : ℕ). o == n) (eqb-true (t .control) 0 p) ∙ ne-eqb 0 n (λ w. absurd (omega arith))
+    go false true p q r z = ap (λ (o : ℕ). o == n) (eqb-true (t .control) b q) ∙ z
+    go false false p q r z = clashing refl r
+
+set-control : (t : Tables) (b n : ℕ) (k : Kind) → 1 ≤ n → (isControl k && ownedByAnother t b) ≡ false
+    → (register t b k true .control == n) ≡ (if b == n && isEvent callControl k then true else t .control == n)
+unfolding register withRegistration isEvent isControl
+set-control t b n (Event f) k r = go (f == callControl) (b == n) refl r
+  where
+    go : (x y : Bool) → (b == n) ≡ y → (x && ownedByAnother t b) ≡ false
+        → ((if x then withControl t b else withApplets t (change (hasNumber b) (withEvent f true) (t .applets))) .control == n) ≡ (if y && x then true else t .control == n)
+    go true true p q = p
+    go true false p q = p ∙ sym (taken t b n k q p)
+    go false true p q = refl
+    go false false p q = refl
+set-control t b n Issuer k r = nothing-marked (b == n) true (t .control == n)
+set-control t b n Reserved k r = nothing-marked (b == n) true (t .control == n)
+set-control t b n Unsupported k r = nothing-marked (b == n) true (t .control == n)
+
+clear-control : (t : Tables) (b n : ℕ) (k : Kind) → 1 ≤ n
+    → (register t b k false .control == n) ≡ (if b == n && isEvent callControl k then false else t .control == n)
+unfolding register withRegistration isEvent
+clear-control t b n (Event f) k = go (f == callControl)
+  where
+    go : (x : Bool)
+        → ((if x then withControl t (forget b (t .control)) else withApplets t (change (hasNumber b) (withEvent f false) (t .applets))) .control == n) ≡ (if b == n && x then false else t .control == n)
+    go true = forgotten (t .control) b n k ∙ marked (b == n) true false (t .control == n)
+    go false = nothing-marked (b == n) false (t .control == n)
+clear-control t b n Issuer k = nothing-marked (b == n) false (t .control == n)
+clear-control t b n Reserved k = nothing-marked (b == n) false (t .control == n)
+clear-control t b n Unsupported k = nothing-marked (b == n) false (t .control == n)
+
+pub control-kept : Kept (λ t h. (n : ℕ) → 1 ≤ n → (t .control == n) ≡ isRegistered n callControl h)
+unfolding tablesAfter adminTables eventTables entryTables timerTables eventLines lines Every isRegistered usesUp reading
+control-kept m h (admin (install b r)) ok s g n k = g .control n k
+control-kept m h (admin (delete b)) ok s g n k =
+    forgotten (m .tables .control) b n k
+    ∙ ap (λ (x : Bool). if b == n then false else x) (g .control n k)
+control-kept m h (admin (lock b)) ok s g n k = g .control n k
+control-kept m h (admin (unlock b)) ok s g n k = g .control n k
+control-kept m h (event (setEvent b v)) ok s g n k =
+    set-control (m .tables) b n (kindOf v) k (none-holds m (event (setEvent b v)) ok .1 .1 .1 .0)
+    ∙ ap (λ (x : Bool). if b == n && isEvent callControl (kindOf v) then true else x) (g .control n k)
+control-kept m h (event (clearEvent b v)) ok s g n k =
+    clear-control (m .tables) b n (kindOf v) k
+    ∙ ap (λ (x : Bool). if b == n && isEvent callControl (kindOf v) then false else x) (g .control n k)
+    ∙ sym (or-none (b == n && isEvent callControl (kindOf v)) false (isRegistered n callControl h))
+control-kept m h (event (askEvent b v)) ok s g n k = g .control n k
+control-kept m h (entry (newEntry b help text)) ok s g n k = g .control n k
+control-kept m h (entry (changeEntry b i help text)) ok s g n k = g .control n k
+control-kept m h (entry (enableEntry b i)) ok s g n k = g .control n k
+control-kept m h (entry (disableEntry b i)) ok s g n k = g .control n k
+control-kept m h (timer (allocate b)) ok s g n k = g .control n k
+control-kept m h (timer (release b j)) ok s g n k = g .control n k
+control-kept m h (arrival c) ok s g n k = g .control n k
+control-kept m h settled ok s g n k = g .control n k
+control-kept m h (proactive c) ok s g n k = g .control n k
+control-kept m h (systemCommand buffer) ok s g n k = g .control n k
