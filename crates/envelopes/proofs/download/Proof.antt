@@ -1,0 +1,43 @@
+-- `envelopes::download` reads an event download.
+-- Assumes nothing.
+use borrow.Author.Needs.{needs}
+use Rattle.lists.proofs.Picks.{picks, by-case}
+use Rattle.rules.specs.Envelopes.{downloadIn, withDevices, downloadBy}
+use Rattle.envelopes.proofs.download.Statement.{statement}
+use Rattle.envelopes.proofs.download.Tie as tie
+
+has-devices-requires : tie.Need-has-devices-requires
+has-devices-requires c κs = search needs
+
+only-byte-requires : tie.Need-only-byte-requires
+only-byte-requires c κs = search needs
+
+enum-known-b : tie.Need-enum-known-b
+enum-known-b c = search needs
+
+enum-told : tie.Need-enum-told
+enum-told c = search needs
+
+returns : tie.Need-returns
+unfolding downloadIn withDevices downloadBy
+returns c = search (picks, by-case downloadBy, needs) depth 8
+
+returns-2 : tie.Need-returns-2
+unfolding downloadIn withDevices downloadBy
+returns-2 c = search (picks, by-case downloadBy, needs) depth 8
+
+returns-3 : tie.Need-returns-3
+unfolding downloadIn withDevices downloadBy
+returns-3 c = search (picks, by-case downloadBy, needs) depth 8
+
+pub download-spec : {M : Type 1} → statement M
+download-spec =
+    tie.close
+    (tie.spec
+    has-devices-requires
+    only-byte-requires
+    enum-known-b
+    enum-told
+    returns
+    returns-2
+    returns-3)

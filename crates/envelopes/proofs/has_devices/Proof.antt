@@ -1,0 +1,27 @@
+-- `envelopes::has_devices` tells whether device identities of two bytes are there.
+-- Assumes nothing.
+use borrow.Author.Needs.{needs}
+use Rattle.lists.proofs.Picks.{picks, by-case₁}
+use Rattle.rules.specs.Envelopes.{isSized}
+use Rattle.envelopes.proofs.has_devices.Statement.{statement}
+use Rattle.envelopes.proofs.has_devices.Tie as tie
+
+locate-requires : tie.Need-locate-requires
+locate-requires c κs = search needs
+
+enum-known-f : tie.Need-enum-known-f
+enum-known-f c = search needs
+
+enum-told : tie.Need-enum-told
+enum-told c = search needs
+
+returns : tie.Need-returns
+unfolding isSized
+returns c = search (picks, by-case₁ (λ n f. isSized f n), needs) depth 8
+
+returns-2 : tie.Need-returns-2
+unfolding isSized
+returns-2 c = search (picks, by-case₁ (λ n f. isSized f n), needs) depth 8
+
+pub has-devices-spec : {M : Type 1} → statement M
+has-devices-spec = tie.close (tie.spec locate-requires enum-known-f enum-told returns returns-2)

@@ -1,0 +1,231 @@
+// What an envelope says, what a command given to send says, and the handler's content. The first occurrence of an element
+// counts, also when its length is not the one stated.
+use rules::Byte;
+use rules::Command;
+use rules::Envelope;
+use rules::Found;
+use rules::Help;
+use rules::Outer;
+ghost use mathlib.Core.Path.{_≡_};
+ghost use Rattle.rules.specs.Bytes.{found};
+ghost use Rattle.rules.specs.Envelopes.{isSized, onlyByte, helpBy, menuIn, callIn, downloadIn, expiryIn, envelopeBy, envelopeOf, badEnvelope, contentOf, typeBy, commandBy, commandOf};
+
+// Whether device identities are there, with their two bytes.
+fn has_devices(s: &[u8]) -> bool
+    ensures { λ r. ⌜ r ≡ isSized (found (now (s .entry)) 0x02 1) 2 ⌝ }
+{
+    let f = tlv::locate(s, 0x02, 1);
+    match f {
+        Found::At(value) => value.len == 2,
+        Found::Nothing => false,
+    }
+}
+
+// The byte of an element that is to have one.
+fn only_byte(s: &[u8], tag: u16) -> Byte
+    ensures { λ r. ⌜ r ≡ onlyByte (now (s .entry)) (found (now (s .entry)) tag 1) ⌝ }
+{
+    let f = tlv::locate(s, tag, 1);
+    match f {
+        Found::At(value) => {
+            let start = value.start;
+            if value.len == 1 {
+                Byte::One(s[start])
+            } else {
+                Byte::Other
+            }
+        }
+        Found::Nothing => Byte::Other,
+    }
+}
+
+// The help request, which has no bytes.
+fn help(s: &[u8]) -> Help
+    ensures { λ r. ⌜ r ≡ helpBy (found (now (s .entry)) 0x15 1) ⌝ }
+{
+    let f = tlv::locate(s, 0x15, 1);
+    match f {
+        Found::At(value) => {
+            if value.len == 0 {
+                Help::Asked
+            } else {
+                Help::Bad
+            }
+        }
+        Found::Nothing => Help::Silent,
+    }
+}
+
+// Menu selection: device identities, an item identifier, perhaps a help request.
+fn menu(s: &[u8]) -> Envelope
+    ensures { λ r. ⌜ r ≡ menuIn (now (s .entry)) ⌝ }
+{
+    if has_devices(s) {
+        let b = only_byte(s, 0x10);
+        match b {
+            Byte::One(item) => {
+                let h = help(s);
+                match h {
+                    Help::Asked => Envelope::Menu { item, help: true },
+                    Help::Silent => Envelope::Menu { item, help: false },
+                    Help::Bad => Envelope::Malformed,
+                }
+            }
+            Byte::Other => Envelope::Malformed,
+        }
+    } else {
+        Envelope::Malformed
+    }
+}
+
+// Call control: device identities.
+fn call(s: &[u8]) -> Envelope
+    ensures { λ r. ⌜ r ≡ callIn (now (s .entry)) ⌝ }
+{
+    if has_devices(s) {
+        Envelope::Call
+    } else {
+        Envelope::Malformed
+    }
+}
+
+// Event download: device identities and an event list of one code.
+fn download(s: &[u8]) -> Envelope
+    ensures { λ r. ⌜ r ≡ downloadIn (now (s .entry)) ⌝ }
+{
+    if has_devices(s) {
+        let b = only_byte(s, 0x19);
+        match b {
+            Byte::One(code) => Envelope::Download { code },
+            Byte::Other => Envelope::Malformed,
+        }
+    } else {
+        Envelope::Malformed
+    }
+}
+
+// Timer expiration: device identities and a timer identifier.
+fn expiry(s: &[u8]) -> Envelope
+    ensures { λ r. ⌜ r ≡ expiryIn (now (s .entry)) ⌝ }
+{
+    if has_devices(s) {
+        let b = only_byte(s, 0x24);
+        match b {
+            Byte::One(timer) => Envelope::Expiry { timer },
+            Byte::Other => Envelope::Malformed,
+        }
+    } else {
+        Envelope::Malformed
+    }
+}
+
+// What an envelope with this outer tag and this value says.
+fn decide(tag: u8, s: &[u8]) -> Envelope
+    ensures { λ r. ⌜ r ≡ envelopeBy tag (now (s .entry)) ⌝ }
+{
+    match tag {
+        0xD3 => menu(s),
+        0xD4 => call(s),
+        0xD6 => download(s),
+        0xD7 => expiry(s),
+        _ => Envelope::Unrecognized,
+    }
+}
+
+// What the bytes of an envelope say.
+pub fn read_envelope(s: &[u8]) -> Envelope
+    ensures { λ r. ⌜ r ≡ envelopeOf (now (s .entry)) ⌝ }
+{
+    let o = tlv::outer(s);
+    match o {
+        Outer::Tlv { tag, start } => decide(tag, &s[start..]),
+        Outer::Malformed => Envelope::Malformed,
+    }
+}
+
+// Whether an envelope is refused with 1.
+pub fn is_bad(e: Envelope) -> bool
+    ensures { λ r. ⌜ r ≡ badEnvelope e ⌝ }
+{
+    match e {
+        Envelope::Menu { item: _, help: _ } => false,
+        Envelope::Call => false,
+        Envelope::Download { code: _ } => false,
+        Envelope::Expiry { timer: _ } => false,
+        Envelope::Unrecognized => false,
+        Envelope::Malformed => true,
+    }
+}
+
+// The handler's content: the part of an envelope after its length; the empty part of one that is refused.
+pub fn content(s: &[u8]) -> &[u8]
+    ensures { λ r. ⌜ now r ≡ contentOf (now (s .entry)) ⌝ }
+{
+    let o = tlv::outer(s);
+    match o {
+        Outer::Tlv { tag, start } => {
+            let e = decide(tag, &s[start..]);
+            if is_bad(e) {
+                return &s[..0];
+            }
+            &s[start..]
+        }
+        Outer::Malformed => &s[..0],
+    }
+}
+
+// The type of a command: the second of the three bytes of its details.
+fn kind(s: &[u8]) -> Byte
+    ensures { λ r. ⌜ r ≡ typeBy (now (s .entry)) (found (now (s .entry)) 0x01 1) ⌝ }
+{
+    let f = tlv::locate(s, 0x01, 1);
+    match f {
+        Found::At(value) => {
+            let start = value.start;
+            if value.len == 3 {
+                Byte::One(s[start + 1])
+            } else {
+                Byte::Other
+            }
+        }
+        Found::Nothing => Byte::Other,
+    }
+}
+
+// What a command with this value says.
+fn instruct(s: &[u8]) -> Command
+    ensures { λ r. ⌜ r ≡ commandBy (now (s .entry)) (typeBy (now (s .entry)) (found (now (s .entry)) 0x01 1)) ⌝ }
+{
+    let k = kind(s);
+    match k {
+        Byte::One(kind) => {
+            if kind == 0x27 {
+                let t = only_byte(s, 0x24);
+                match t {
+                    Byte::One(timer) => Command::Timer { timer },
+                    Byte::Other => Command::Malformed,
+                }
+            } else {
+                Command::Plain { kind }
+            }
+        }
+        Byte::Other => Command::Malformed,
+    }
+}
+
+// What the bytes of a command given to send say.
+pub fn read_command(s: &[u8]) -> Command
+    ensures { λ r. ⌜ r ≡ commandOf (now (s .entry)) ⌝ }
+{
+    let o = tlv::outer(s);
+    match o {
+        Outer::Tlv { tag, start } => {
+            if tag == 0xD0 {
+                instruct(&s[start..])
+            } else {
+                Command::Malformed
+            }
+        }
+        Outer::Malformed => Command::Malformed,
+    }
+}

@@ -1,0 +1,3 @@
+-- The laws of events.
+pub mod Table
+pub mod Places

@@ -1,0 +1,81 @@
+-- Laws of kinds: which places a value or a code names, what may be set, and that codes ascend.
+-- Assumes nothing.
+use mathlib.Core.Path.{_≡_, refl, sym}
+use mathlib.Core.Bool.{Bool, true, false}
+use mathlib.Core.List.{List, [], _∷_, map}
+use Prim.Native.Nat.{ℕ, suc, _+_, _≤_, _<_}
+use native.Mathlib.Omega.{arith}
+use lib.IntN.{ℤ, pos}
+use lib.Signed.{ltZ}
+use lib.ListN.{length}
+use borrow.Author.Tests.{ne-eqb}
+use Rattle.lists.specs.Tests.{if_then_else_, _<?_}
+use Rattle.lists.specs.Lists.{every?}
+use Rattle.rules.specs.declared.Kind.{Kind}
+use Rattle.rules.specs.declared.Kind.the-variants.{Event, Issuer, Reserved, Unsupported}
+use Rattle.rules.specs.Events.{kindOf, kindOfCode, values, codes, equal?, named, minus, firstDownload, notSupported, notToSet}
+use Rattle.rules.specs.Refusals.{line, lowest}
+
+-- the refusal of a kind, as `refusal_of` gives it
+abbrev pub refusalOf : Kind → ℕ
+refusalOf k = lowest (line 7 (notSupported k) ∷ line 8 (notToSet k) ∷ [])
+
+-- any other event may be set
+pub settable : (e : ℕ) → (e ≡ 1 → ⊥) → (e ≡ 2 → ⊥) → (e ≡ 4 → ⊥) → 0 ≡ refusalOf (Event e)
+unfolding notSupported notToSet lowest
+settable e a b c = sym (simp (ne-eqb e 1 a, ne-eqb e 2 b, ne-eqb e 4 c))
+
+-- of a kind that is an event, something holds of its place
+abbrev pub OfPlace : (ℕ → Type 0) → Kind → Type 0
+OfPlace P (Event e) = P e
+OfPlace P Issuer = Unit
+OfPlace P Reserved = Unit
+OfPlace P Unsupported = Unit
+
+-- the place is of a list that starts at e and has n elements
+abbrev pub Among : ℕ → ℕ → Kind → Type 0
+Among e n = OfPlace (λ (p : ℕ). (e ≤ p) × (p < e + n))
+
+wider : (e n : ℕ) (k : Kind) → Among (suc e) n k → Among e (suc n) k
+wider e n (Event p) h = (omega arith, omega arith)
+wider e n Issuer h = tt
+wider e n Reserved h = tt
+wider e n Unsupported h = tt
+
+either : (P : Kind → Type 0) (b : Bool) (k l : Kind) → P k → P l → P (if b then k else l)
+either P true k l p q = p
+either P false k l p q = q
+
+pub named-among : (e : ℕ) (l : List ℤ) (v : ℤ) → Among e (length l) (named e l v)
+unfolding named
+named-among e [] v = tt
+named-among e (z ∷ l) v =
+    either (Among e (suc (length l))) (equal? v z) (Event e) (named (suc e) l v) (omega arith, omega arith)
+    (wider e (length l) (named (suc e) l v) (named-among (suc e) l v))
+
+-- an event value names one of the 20 places, a download code one of 5 to 17
+pub value-place : (v : ℤ) → Among 0 20 (kindOf v)
+unfolding kindOf values
+value-place v =
+    either (Among 0 20) (ltZ v (minus 128)) Reserved _ tt
+    (either (Among 0 20) (ltZ v (minus 64)) Issuer _ tt (named-among 0 values v))
+
+pub code-place : (c : ℕ) → Among 5 13 (kindOfCode c)
+unfolding kindOfCode codes
+code-place c = named-among firstDownload (map pos codes) (pos c)
+
+-- the same, where the kind is known at an event
+pub value-event : (v : ℤ) (e : ℕ) → kindOf v ≡ Event e → e < 20
+value-event v e h = (rw h at (value-place v)) .1
+
+pub code-event : (c e : ℕ) → kindOfCode c ≡ Event e → (5 ≤ e) × (e < 18)
+code-event c e h = rw h at (code-place c)
+
+-- the list is ascending
+unfoldable pub ascends? : List ℕ → Bool
+ascends? [] = true
+ascends? (n ∷ l) = if every? (λ k. n <? k) l then ascends? l else false
+
+pub codes-ascend : ascends? codes ≡ true
+unfolding ascends? codes every?
+codes-ascend = refl

@@ -1,0 +1,212 @@
+// Reads runs of elements, each a tag, a length and that many value bytes, and the outer tag and length around one.
+// A position is an index into the caller's bytes, and a value is handed back as a part of them: nothing is copied.
+use rules::Element;
+use rules::Found;
+use rules::Len;
+use rules::Outer;
+use rules::Span;
+ghost use mathlib.Core.Path.{_≡_};
+ghost use Prim.Native.Nat.{_<_};
+ghost use lib.ListN.{length};
+ghost use Rattle.rules.specs.Bytes.{tagSize, tagNumber, lengthAt, elementAt, found, isFound, partOf, runAt, fills, outerOf};
+
+// How many bytes a tag with this first byte takes; 0 if it starts none.
+fn tag_size(first: u8) -> usize
+    ensures { λ r. ⌜ r ≡ tagSize first ⌝ }
+{
+    match first {
+        0x00 => 0,
+        0x80 => 0,
+        0xFF => 0,
+        0x7F => 3,
+        _ => 1,
+    }
+}
+
+// The number that the tag at a position is compared by; 0, which is never looked for, for a three-byte tag.
+fn tag_number(s: &[u8], at: usize) -> u16
+    requires { ⌜ at < length (now s) ⌝ }
+    ensures { λ r. ⌜ r ≡ tagNumber (now (s .entry)) at ⌝ }
+{
+    let first = s[at];
+    if first == 0x7F {
+        0
+    } else {
+        (first % 128) as u16
+    }
+}
+
+// The length at a position: 00..7F, or 81 followed by 80..FF.
+fn length_at(s: &[u8], at: usize) -> Len
+    ensures { λ r. ⌜ r ≡ lengthAt (now (s .entry)) at ⌝ }
+{
+    if s.len() <= at {
+        return Len::Bad;
+    }
+    let first = s[at];
+    if first < 0x80 {
+        return Len::Known {
+            len: first,
+            next: at + 1,
+        };
+    }
+    if first != 0x81 {
+        return Len::Bad;
+    }
+    if s.len() <= at + 1 {
+        return Len::Bad;
+    }
+    let second = s[at + 1];
+    if second < 0x80 {
+        return Len::Bad;
+    }
+    Len::Known {
+        len: second,
+        next: at + 2,
+    }
+}
+
+// The element at a position.
+fn element_at(s: &[u8], at: usize) -> Element
+    ensures { λ r. ⌜ r ≡ elementAt (now (s .entry)) at ⌝ }
+{
+    if s.len() <= at {
+        return Element::End;
+    }
+    let first = s[at];
+    let size = tag_size(first);
+    if size == 0 {
+        return Element::Malformed;
+    }
+    let l = length_at(s, at + size);
+    match l {
+        Len::Known { len, next } => {
+            let n = len as usize;
+            let past = next + n;
+            if s.len() < past {
+                return Element::Malformed;
+            }
+            Element::Whole {
+                number: tag_number(s, at),
+                start: next,
+                len: n,
+                next: past,
+            }
+        }
+        Len::Bad => Element::Malformed,
+    }
+}
+
+// Looks in a run for the element with this tag number that occurs so many-th, counted from 1; what follows it is not judged.
+pub fn locate(s: &[u8], tag: u16, occurrence: usize) -> Found
+    ensures { λ r. ⌜ r ≡ found (now (s .entry)) tag occurrence ⌝ }
+{
+    if tag == 0 {
+        return Found::Nothing;
+    }
+    if 0x7E < tag {
+        return Found::Nothing;
+    }
+    if occurrence == 0 {
+        return Found::Nothing;
+    }
+    let mut at: usize = 0;
+    let mut left = occurrence;
+    let value = loop {
+        let e = element_at(s, at);
+        match e {
+            Element::Whole {
+                number,
+                start,
+                len,
+                next,
+            } => {
+                if number == tag {
+                    if left == 1 {
+                        break Span { start, len };
+                    }
+                    left -= 1;
+                }
+                at = next;
+            }
+            Element::Malformed => return Found::Nothing,
+            Element::End => return Found::Nothing,
+        }
+    };
+    Found::At(value)
+}
+
+// The value of the element that `locate` finds, as a part of the run; the empty part where there is none.
+pub fn find(s: &[u8], tag: u16, occurrence: usize) -> &[u8]
+    ensures { λ r. ⌜ now r ≡ partOf (now (s .entry)) (found (now (s .entry)) tag occurrence) ⌝ }
+{
+    let place = locate(s, tag, occurrence);
+    match place {
+        Found::At(value) => {
+            let start = value.start;
+            let len = value.len;
+            &s[start..start + len]
+        }
+        Found::Nothing => &s[..0],
+    }
+}
+
+// Whether there is such an element, which tells an empty value from none.
+pub fn has(s: &[u8], tag: u16, occurrence: usize) -> bool
+    ensures { λ r. ⌜ r ≡ isFound (found (now (s .entry)) tag occurrence) ⌝ }
+{
+    let f = locate(s, tag, occurrence);
+    match f {
+        Found::At(_) => true,
+        Found::Nothing => false,
+    }
+}
+
+// Whether the bytes are a run of elements that fills them exactly, perhaps of none.
+fn is_run(s: &[u8]) -> bool
+    ensures { λ r. ⌜ r ≡ fills (runAt (now (s .entry)) 0) ⌝ }
+{
+    let mut at: usize = 0;
+    loop {
+        let e = element_at(s, at);
+        match e {
+            Element::Whole {
+                number: _,
+                start: _,
+                len: _,
+                next,
+            } => {
+                at = next;
+            }
+            Element::Malformed => return false,
+            Element::End => return true,
+        }
+    }
+}
+
+// One tag byte, a length, and a run of elements of exactly that length, with nothing after.
+pub fn outer(s: &[u8]) -> Outer
+    ensures { λ r. ⌜ r ≡ outerOf (now (s .entry)) ⌝ }
+{
+    if s.len() == 0 {
+        return Outer::Malformed;
+    }
+    let l = length_at(s, 1);
+    match l {
+        Len::Known { len, next } => {
+            let n = len as usize;
+            if s.len() - next != n {
+                return Outer::Malformed;
+            }
+            if is_run(&s[next..]) {
+                Outer::Tlv {
+                    tag: s[0],
+                    start: next,
+                }
+            } else {
+                Outer::Malformed
+            }
+        }
+        Len::Bad => Outer::Malformed,
+    }
+}
