@@ -1,0 +1,2 @@
+-- The walk that the two lent calls share.
+pub mod Walk
