@@ -1,0 +1,4 @@
+-- Laws of an install.
+pub mod Requests
+pub mod Refusing
+pub mod Newcomer

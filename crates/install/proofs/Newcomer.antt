@@ -1,0 +1,28 @@
+-- One more applet behind those of a table.
+-- Assumes nothing.
+use Prim.Native.Nat.{_+_, _<_}
+use native.Mathlib.Omega.{arith}
+use mathlib.Core.Path.{_≡_, sym, ap, _∙_}
+use mathlib.Core.List.{[], _∷_, _++_, map}
+use lib.ListN.{set, length-append}
+use Rattle.lists.specs.Lists.{padded}
+use Rattle.lists.proofs.Padded.{push}
+use Rattle.lists.proofs.Mapped.{map-append}
+use Rattle.rules.specs.declared.Applet as held
+use Rattle.rules.specs.declared.Applets.{Applets}
+use Rattle.rules.specs.Holds.{Applet}
+use Rattle.rules.specs.Held.{storedApplet, viewApplets, storedApplets, TidyApplets}
+use Rattle.registry.proofs.Table.{blank, at-is, count-is, held-long, stores}
+
+pub one-behind
+    : (s : Applets) (tidy : TidyApplets s) (x : Applet) (a : held.Applet)
+    → a ≡ storedApplet x
+    → s .count < 8
+    → _≡_ {A = Applets} (record { at = set (s .at) (s .count) a; count = s .count + 1 }) (storedApplets (viewApplets s ++ x ∷ []))
+one-behind s tidy x a e h =
+    let l = viewApplets s in
+    stores (l ++ x ∷ [])
+    (push 8 blank (map storedApplet l) (s .at) (s .count) a (at-is s tidy) (held-long s tidy) h
+    ∙ ap (λ (y : held.Applet). padded 8 blank (map storedApplet l ++ y ∷ [])) e
+    ∙ ap (padded 8 blank) (sym (map-append storedApplet l (x ∷ []))))
+    (omega (arith, count-is s tidy, length-append l (x ∷ [])))

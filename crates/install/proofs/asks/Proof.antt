@@ -1,0 +1,71 @@
+-- `install::asks` meets its contract. The invariant: what is left of the pairs decides.
+-- Assumes nothing.
+use Prim.Native.Nat.{_-_}
+use mathlib.Core.Path.{_≡_, refl, sym, _∙_}
+use native.Mathlib.Omega.{arith}
+use lib.ListN.{length, drop}
+use borrow.Author.Tests.{eq-eqb, ne-eqb}
+use Rattle.lists.specs.Lists.{some?}
+use Rattle.lists.proofs.Walk.{some-pass, some-here, some-end}
+use Rattle.rules.specs.Rows.{noPair}
+use Rattle.install.specs.Refuses.{asksFor}
+use borrow.Author.Needs.{needs}
+use Rattle.install.proofs.asks.Statement.{statement}
+use Rattle.install.proofs.asks.Tie as tie
+
+abbrev Inv-loop : tie.InvT-loop
+Inv-loop from identifier pairs i₀ i = some? (asksFor identifier) (drop from pairs) ≡ some? (asksFor identifier) (drop i pairs)
+
+abbrev μ-loop : tie.MeasureT-loop
+μ-loop from identifier pairs i₀ i = 4 - i
+
+loop-holds : tie.Need-loop-holds Inv-loop μ-loop
+loop-holds c = refl
+
+mul-p : tie.Need-mul-p Inv-loop μ-loop
+mul-p c = search needs
+
+array-copy-out-p : tie.Need-array-copy-out-p Inv-loop μ-loop
+array-copy-out-p c = search needs
+
+returns : tie.Need-returns Inv-loop μ-loop
+returns c =
+    let b = c .before .before .before .before in
+    let a = b .before .args in
+    let l : length (a .t1) ≡ 4 = b .before .good .0 .1 .0 .1 in
+    sym (b .loop .inv ∙ some-here (asksFor (a .identifier)) (a .t1) (b .loop .i) noPair (omega arith) (eq-eqb _ _ (c .if1 .taken)))
+
+add-i : tie.Need-add-i Inv-loop μ-loop
+add-i c = search needs
+
+loop-less : tie.Need-loop-less Inv-loop μ-loop
+loop-less c = search needs
+
+loop-again : tie.Need-loop-again Inv-loop μ-loop
+loop-again c =
+    let b = c .before .before .before .before in
+    let a = b .before .args in
+    let l : length (a .t1) ≡ 4 = b .before .good .0 .1 .0 .1 in
+    b .loop .inv ∙ some-pass (asksFor (a .identifier)) (a .t1) (b .loop .i) noPair (omega arith) (ne-eqb _ _ (c .if1 .left))
+
+returns-2 : tie.Need-returns-2 Inv-loop μ-loop
+returns-2 c =
+    let b = c .before in
+    let a = b .before .args in
+    let l : length (a .t1) ≡ 4 = b .before .good .0 .1 .0 .1 in
+    sym (b .loop .inv ∙ some-end (asksFor (a .identifier)) (a .t1) (b .loop .i) (omega arith))
+
+pub asks-spec : {M : Type 1} → statement M
+asks-spec =
+    tie.close
+    (tie.spec
+    Inv-loop
+    μ-loop
+    loop-holds
+    mul-p
+    array-copy-out-p
+    returns
+    add-i
+    loop-less
+    loop-again
+    returns-2)

@@ -1,0 +1,2 @@
+-- The refusal of an install, from the applets present.
+pub mod Refuses

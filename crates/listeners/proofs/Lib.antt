@@ -1,0 +1,2 @@
+-- Laws of the tests.
+pub mod Codes

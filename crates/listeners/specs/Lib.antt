@@ -1,0 +1,2 @@
+-- Who listens to an event.
+pub mod Listens

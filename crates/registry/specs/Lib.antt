@@ -1,0 +1,2 @@
+-- What the look-up gives.
+pub mod Looks
