@@ -1,0 +1,4 @@
+-- Laws of the writer.
+pub mod Heads
+pub mod Lines
+pub mod Whole

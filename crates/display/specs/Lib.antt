@@ -1,0 +1,2 @@
+-- What is shown.
+pub mod Shows

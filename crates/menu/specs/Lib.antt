@@ -1,0 +1,2 @@
+-- What is said of the menu list beside the rules.
+pub mod Table
