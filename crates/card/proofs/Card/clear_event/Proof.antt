@@ -1,0 +1,60 @@
+-- `clear_event`: refused, or the registration changed.
+-- Assumes nothing.
+use Rattle.card.proofs.Left.{tidy-applets}
+use Rattle.card.proofs.EventLaws.{kind-of-value, place-within, clear-finds, clear-refuses, clear-accepts}
+use borrow.Author.Needs.{needs}
+use Rattle.card.proofs.Card.clear_event.Statement.{statement}
+use Rattle.card.proofs.Card.clear_event.Tie as tie
+
+look-requires : tie.Need-look-requires
+look-requires c κs = tidy-applets _ (c .before .pre)
+
+kind-of-requires : tie.Need-kind-of-requires
+kind-of-requires c κs = search needs
+
+refusal-for-requires : tie.Need-refusal-for-requires
+refusal-for-requires c κs = search needs
+
+returns : tie.Need-returns
+returns c =
+    let r = c .before in
+    let k = r .before in
+    let l = k .before in
+    let s = l .before .before in
+    clear-refuses _ (s .pre) _ _ _ (l .look .ensures) _ (kind-of-value _ (s .fits .value) (k .kind-of .ensures)) (r .refusal-for .ensures) (c .if1 .taken)
+
+place-of-requires : tie.Need-place-of-requires
+place-of-requires c κs = search needs
+
+registered-requires : tie.Need-registered-requires
+registered-requires c κs =
+    let r = c .before .before in
+    let k = r .before in
+    let l = k .before in
+    let s = l .before .before in (
+      s .pre,
+      l .look .ensures,
+      clear-finds _ (s .pre) _ _ _ (l .look .ensures) _ (kind-of-value _ (s .fits .value) (k .kind-of .ensures)) (r .refusal-for .ensures) (c .before .if1 .left),
+      place-within _ (k .kind-of .ensures) (c .place-of .ensures),
+    )
+
+returns-2 : tie.Need-returns-2
+returns-2 c =
+    let p = c .before in
+    let r = p .before .before in
+    let k = r .before in
+    let l = k .before in
+    let s = l .before .before in
+    clear-accepts _ (s .pre) _ _ _ (l .look .ensures) _ (kind-of-value _ (s .fits .value) (k .kind-of .ensures)) (r .refusal-for .ensures) (p .before .if1 .left) (p .place-of .ensures) (c .registered .ensures)
+
+pub clear-event-spec : {M : Type 1} → statement M
+clear-event-spec =
+    tie.close
+    (tie.spec
+    look-requires
+    kind-of-requires
+    refusal-for-requires
+    returns
+    place-of-requires
+    registered-requires
+    returns-2)

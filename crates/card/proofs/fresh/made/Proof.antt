@@ -1,0 +1,29 @@
+-- `made` meets its contract: no applet, no row, no owner, and the title on an idle desk.
+-- Assumes nothing.
+use denote.Ref.{now}
+use borrow.Author.Needs.{needs}
+use Rattle.card.proofs.FreshLaws.{fresh-is}
+use Rattle.card.proofs.fresh.made.Statement.{statement}
+use Rattle.card.proofs.fresh.made.Tie as tie
+
+no-applets-requires : tie.Need-no-applets-requires
+no-applets-requires c κs = search needs
+
+no-rows-requires : tie.Need-no-rows-requires
+no-rows-requires c κs = search needs
+
+held-title-requires : tie.Need-held-title-requires
+held-title-requires c κs = search needs
+
+cast-t9 : tie.Need-cast-t9
+cast-t9 c = search needs
+
+returns : tie.Need-returns
+returns c =
+    let rows = c .before in
+    let applets = rows .before in
+    fresh-is (now (applets .before .before .args .title)) (applets .no-applets .ensures) (rows .no-rows .ensures) (c .held-title .ensures)
+
+pub made-spec : {M : Type 1} → statement M
+made-spec =
+    tie.close (tie.spec no-applets-requires no-rows-requires held-title-requires cast-t9 returns)

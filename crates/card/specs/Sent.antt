@@ -1,0 +1,12 @@
+-- The refusal of send, by what its bytes say and whether the applet is there and a command outstanding.
+use Prim.Native.Nat.{ℕ}
+use mathlib.Core.Bool.{Bool, not}
+use mathlib.Core.List.{[], _∷_}
+use Rattle.rules.specs.declared.Command.{Command}
+use Rattle.rules.specs.Holds.{Tables}
+use Rattle.rules.specs.Envelopes.{badCommand, systemType}
+use Rattle.rules.specs.Refusals.{line, lowest, foreignTimer}
+
+unfoldable pub sendRefusal : Tables → (applet : ℕ) (there outstanding : Bool) → Command → ℕ
+sendRefusal t n there outstanding k =
+    lowest (line 1 (badCommand k) ∷ line 2 (not there) ∷ line 15 (foreignTimer t n k) ∷ line 16 outstanding ∷ line 17 (systemType k) ∷ [])

@@ -1,0 +1,128 @@
+// The calls that install, delete, lock and unlock an applet.
+// An accepted one marks due what it changes of the shown menu and the shown events.
+use crate::Card;
+use crate::Changed;
+use rules::Applet;
+use rules::Applets;
+use rules::Desk;
+use rules::Done;
+use rules::Request;
+use rules::Rows;
+ghost use mathlib.Core.Path.{_≡_};
+ghost use mathlib.Core.Bool.{_&&_};
+ghost use Rattle.rules.specs.Held.{viewApplets, viewRows, TidyApplets, TidyRows};
+ghost use Rattle.rules.specs.Calls.{admin, install, delete, lock, unlock};
+ghost use Rattle.rules.specs.Step.{step};
+ghost use Rattle.listeners.specs.Listens.{anyCode, alone};
+ghost use Rattle.shown.specs.Asked.{hasEnabledRow};
+ghost use Rattle.due.specs.Turns.{markedDesk};
+ghost use Rattle.card.specs.View.{view, Left};
+ghost use Rattle.card.specs.Reply.{changedBy};
+ghost use Rattle.card.specs.Locks.{locking};
+
+// The desk with what an applet changes of what is shown marked due, if it turns: its enabled rows, and the codes that it alone listens to.
+fn marked_for(desk: Desk, turns: bool, applets: Applets, rows: Rows, a: Applet) -> Desk
+    requires { ⌜ TidyApplets applets × TidyRows rows ⌝ }
+    ensures { λ r. ⌜ r ≡ markedDesk (turns && hasEnabledRow (a .number) (viewRows rows)) (turns && anyCode (alone (a .events) (a .number) (viewApplets applets))) desk ⌝ }
+{
+    if turns {
+        let menu = shown::has_enabled_row(rows, a.number);
+        let events = listeners::has_own_code(applets, a);
+        return due::marked(desk, menu, events);
+    }
+    desk
+}
+
+// Locks the applet, or makes it selectable.
+fn locked(card: Card, applet: u8, on: bool) -> Changed
+    requires { ⌜ Left card ⌝ }
+    ensures { λ r. ⌜ r ≡ changedBy (step (view card) (admin (locking on applet))) ⌝ }
+{
+    let applets = card.applets;
+    let looked = registry::look(applets, applet);
+    if !looked.there {
+        return Changed {
+            card,
+            answer: Done::Refused(2),
+        };
+    }
+    let a = looked.applet;
+    let desk = card.desk;
+    let rows = card.rows;
+    let mut next = card;
+    next.applets = registry::locked(applets, applet, on);
+    next.desk = marked_for(desk, a.selectable != on, applets, rows, a);
+    Changed {
+        card: next,
+        answer: Done::Accepted,
+    }
+}
+
+impl Card {
+    // Installs an applet with what it asks for: selectable, with no entry made and registered for nothing.
+    pub fn install(self, applet: u8, request: Request) -> Changed
+        requires { ⌜ Left self ⌝ }
+        ensures { λ r. ⌜ r ≡ changedBy (step (view self) (admin (install applet request))) ⌝ }
+    {
+        let applets = self.applets;
+        let refusal = install::install_refusal(applets, applet, request);
+        if refusal == 0 {
+            let mut next = self;
+            next.applets = install::installed(applets, applet, request);
+            return Changed {
+                card: next,
+                answer: Done::Accepted,
+            };
+        }
+        Changed {
+            card: self,
+            answer: Done::Refused(refusal),
+        }
+    }
+
+    // Deletes an applet, with its rows, its timers and its registrations.
+    pub fn delete(self, applet: u8) -> Changed
+        requires { ⌜ Left self ⌝ }
+        ensures { λ r. ⌜ r ≡ changedBy (step (view self) (admin (delete applet))) ⌝ }
+    {
+        let applets = self.applets;
+        let looked = registry::look(applets, applet);
+        if !looked.there {
+            return Changed {
+                card: self,
+                answer: Done::Refused(2),
+            };
+        }
+        let a = looked.applet;
+        let rows = self.rows;
+        let bank = self.bank;
+        let desk = self.desk;
+        let next = Card {
+            applets: registry::without(applets, applet),
+            rows: menu::without(rows, applet),
+            bank: timers::freed(bank, applet),
+            control: timers::forgotten(self.control, applet),
+            desk: marked_for(desk, a.selectable, applets, rows, a),
+        };
+        Changed {
+            card: next,
+            answer: Done::Accepted,
+        }
+    }
+
+    // Locks an applet: it is not called until it is unlocked.
+    pub fn lock(self, applet: u8) -> Changed
+        requires { ⌜ Left self ⌝ }
+        ensures { λ r. ⌜ r ≡ changedBy (step (view self) (admin (lock applet))) ⌝ }
+    {
+        locked(self, applet, false)
+    }
+
+    // Makes an applet selectable again.
+    pub fn unlock(self, applet: u8) -> Changed
+        requires { ⌜ Left self ⌝ }
+        ensures { λ r. ⌜ r ≡ changedBy (step (view self) (admin (unlock applet))) ⌝ }
+    {
+        locked(self, applet, true)
+    }
+}
