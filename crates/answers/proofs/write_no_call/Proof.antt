@@ -1,0 +1,32 @@
+-- `answers::write_no_call` meets its contract.
+-- Assumes nothing.
+use borrow.Author.Needs.{needs}
+use Rattle.lines.specs.Texts.{refusalText}
+use Rattle.answers.proofs.write_no_call.Statement.{statement}
+use Rattle.answers.proofs.write_no_call.Tie as tie
+
+array-share-prefix-none : tie.Need-array-share-prefix-none
+array-share-prefix-none c = search needs
+
+slice-aggregate-write-line : tie.Need-slice-aggregate-write-line
+slice-aggregate-write-line c = search needs
+
+write-line-requires : tie.Need-write-line-requires
+write-line-requires c κs = search needs
+
+same-length : tie.Need-same-length
+same-length c = search needs
+
+returns : tie.Need-returns
+unfolding refusalText
+returns c = c .before .before .write-line .ensures
+
+pub write-no-call-spec : {M : Type 1} → statement M
+write-no-call-spec =
+    tie.close
+    (tie.spec
+    array-share-prefix-none
+    slice-aggregate-write-line
+    write-line-requires
+    same-length
+    returns)

@@ -1,0 +1,2 @@
+-- What a line shows of an answer.
+pub mod Shown

@@ -1,0 +1,47 @@
+-- `floor::obey_input` meets its contract: the turns fall.
+-- Assumes nothing.
+use borrow.Author.Needs.{needs}
+use Rattle.card.specs.View.{Left}
+use Rattle.floor.proofs.obey_input.Statement.{statement}
+use Rattle.floor.proofs.obey_input.Tie as tie
+
+abbrev Inv-loop : tie.InvT-loop
+Inv-loop run₀ turns₀ run turns = Left (run .card)
+
+abbrev μ-loop : tie.MeasureT-loop
+μ-loop run₀ turns₀ run turns = turns
+
+loop-holds : tie.Need-loop-holds Inv-loop μ-loop
+loop-holds c = search needs
+
+obey-next-requires : tie.Need-obey-next-requires Inv-loop μ-loop
+obey-next-requires c κs = search needs
+
+sub-turns : tie.Need-sub-turns Inv-loop μ-loop
+sub-turns c = search needs
+
+loop-less : tie.Need-loop-less Inv-loop μ-loop
+loop-less c = search needs
+
+loop-again : tie.Need-loop-again Inv-loop μ-loop
+loop-again c = search needs
+
+returns : tie.Need-returns Inv-loop μ-loop
+returns c = search needs
+
+returns-2 : tie.Need-returns-2 Inv-loop μ-loop
+returns-2 c = search needs
+
+pub obey-input-spec : {M : Type 1} → statement M
+obey-input-spec =
+    tie.close
+    (tie.spec
+    Inv-loop
+    μ-loop
+    loop-holds
+    obey-next-requires
+    sub-turns
+    loop-less
+    loop-again
+    returns
+    returns-2)

@@ -1,0 +1,2 @@
+-- The texts of a line.
+pub mod Texts

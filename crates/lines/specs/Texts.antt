@@ -1,0 +1,17 @@
+-- What a line says of a refusal and of an answer.
+use Prim.Native.Nat.{ℕ}
+use mathlib.Core.List.{List}
+use Rattle.lists.specs.Tests.{if_then_else_}
+use Rattle.lists.specs.Lists.{empty?}
+use Rattle.rules.specs.Floor.{decimal, hex, dash}
+use Rattle.lines.specs.declared.Refusal.{Refusal}
+use Rattle.lines.specs.declared.Refusal.the-variants.{Number, NoCall}
+
+-- the number in decimal, or a dash where no call was made
+unfoldable pub refusalText : Refusal → List ℕ
+refusalText (Number n) = decimal n
+refusalText NoCall = dash
+
+-- the bytes in upper hex, or a dash where there are none
+unfoldable pub answerText : List ℕ → List ℕ
+answerText l = if empty? l then dash else hex l

@@ -1,0 +1,49 @@
+-- `begun` meets its contract: a fresh card, and each call, leaves a card that calls have left. Assumes nothing.
+use mathlib.Core.Path.{subst⁻¹}
+use borrow.Author.Needs.{needs}
+use Rattle.card.specs.declared.Changed.{Changed}
+use Rattle.card.specs.declared.Arrived.{Arrived}
+use Rattle.card.specs.View.{Left}
+use Rattle.card.specs.Reply.{arrivedBy}
+use Rattle.card.proofs.FreshLaws.{fresh-left}
+use Rattle.card.proofs.Left.{left-again}
+use Rattle.menus.proofs.begun.Statement.{statement}
+use Rattle.menus.proofs.begun.Tie as tie
+
+fresh-requires : tie.Need-fresh-requires
+fresh-requires c κs = search needs
+
+installed-requires : tie.Need-installed-requires
+installed-requires c κs = subst⁻¹ (λ (x : Changed). Left (x .card)) (c .before .fresh .ensures) (fresh-left _)
+
+installed-requires-2 : tie.Need-installed-requires-2
+installed-requires-2 c κs = c .installed .ensures
+
+installed-requires-3 : tie.Need-installed-requires-3
+installed-requires-3 c κs = c .installed2 .ensures
+
+filled-requires : tie.Need-filled-requires
+filled-requires c κs = c .installed3 .ensures
+
+slice-aggregate-profile : tie.Need-slice-aggregate-profile
+slice-aggregate-profile c = search needs
+
+profile-requires : tie.Need-profile-requires
+profile-requires c κs = c .before .filled .ensures
+
+returns : tie.Need-returns
+unfolding arrivedBy
+returns c = subst⁻¹ (λ (x : Arrived). Left (x .card)) (c .before .profile2 .ensures) (left-again _ _ (c .before .before .before .filled .ensures))
+
+pub begun-spec : {M : Type 1} → statement M
+begun-spec =
+    tie.close
+    (tie.spec
+    fresh-requires
+    installed-requires
+    installed-requires-2
+    installed-requires-3
+    filled-requires
+    slice-aggregate-profile
+    profile-requires
+    returns)

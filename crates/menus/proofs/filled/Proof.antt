@@ -1,0 +1,47 @@
+-- `filled` meets its contract: each entry leaves a card that calls have left. Assumes nothing.
+use Prim.Native.Nat.{_≤_, _-_}
+use Rattle.card.specs.View.{Left}
+use borrow.Author.Needs.{needs}
+use Rattle.menus.proofs.filled.Statement.{statement}
+use Rattle.menus.proofs.filled.Tie as tie
+
+abbrev Inv-loop : tie.InvT-loop
+Inv-loop rows text left₀ i₀ left i = (i ≤ rows) × Left left
+
+abbrev μ-loop : tie.MeasureT-loop
+μ-loop rows text left₀ i₀ left i = rows - i
+
+loop-holds : tie.Need-loop-holds Inv-loop μ-loop
+loop-holds c = (search needs, search needs)
+
+add-entered : tie.Need-add-entered Inv-loop μ-loop
+add-entered c = search needs
+
+entered-requires : tie.Need-entered-requires Inv-loop μ-loop
+entered-requires c κs = c .before .loop .inv .1
+
+add-i : tie.Need-add-i Inv-loop μ-loop
+add-i c = search needs
+
+loop-less : tie.Need-loop-less Inv-loop μ-loop
+loop-less c = search needs
+
+loop-again : tie.Need-loop-again Inv-loop μ-loop
+loop-again c = (search needs, search needs)
+
+returns : tie.Need-returns Inv-loop μ-loop
+returns c = c .before .loop .inv .1
+
+pub filled-spec : {M : Type 1} → statement M
+filled-spec =
+    tie.close
+    (tie.spec
+    Inv-loop
+    μ-loop
+    loop-holds
+    add-entered
+    entered-requires
+    add-i
+    loop-less
+    loop-again
+    returns)

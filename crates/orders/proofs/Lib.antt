@@ -1,0 +1,2 @@
+-- The laws of orders.
+pub mod OrderLaws

@@ -1,0 +1,2 @@
+-- What an order means.
+pub mod Orders

@@ -1,0 +1,71 @@
+-- Lists that grow at the end: each of them passes, no number stands twice; and the part of a list that is there.
+-- Assumes nothing.
+use Prim.Native.Nat.{ℕ, zero, suc, _+_, _-_, _≤_}
+use native.Mathlib.Omega.{arith}
+use mathlib.Core.Path.{_≡_, refl, sym, ap, _∙_}
+use mathlib.Core.Bool.{Bool, true, false, _&&_, _||_}
+use mathlib.Core.List.{List, [], _∷_, _++_}
+use lib.ListN.{length, take, drop, length-take}
+use Rattle.lists.specs.Tests.{_==_}
+use Rattle.lists.specs.Lists.{every?, some?, in?, repeats?}
+use Rattle.lists.proofs.Truth.{or-false, or-true}
+use Rattle.lists.proofs.Decided.{turned}
+use Rattle.lists.proofs.Decided.{neither, clashing}
+use Rattle.lists.proofs.Firsts.{some-append}
+
+-- a part from a to a + n is no longer than n
+pub part-most : (a n most : ℕ) (l : List ℕ) → n ≤ most → length (take (a + n - a) l) ≤ most
+part-most a n most l h = omega (arith, length-take (a + n - a) l)
+
+module _ {A : Type 0} where
+  -- what is not there is not passed over
+  pub drop-taken : (n : ℕ) (l : List A) → drop (length (take n l)) l ≡ drop n l
+  drop-taken zero l = refl
+  drop-taken (suc n) [] = refl
+  drop-taken (suc n) (x ∷ l) = drop-taken n l
+
+  pub each-more : (p : A → Bool) (l : List A) (x : A) → every? p l ≡ true → p x ≡ true → every? p (l ++ (x ∷ [])) ≡ true
+  unfolding every?
+  each-more p [] x e f = rw f refl
+  each-more p (y ∷ l) x e f = go (p y) e (each-more p l x)
+    where
+      go : (b : Bool) → (b && every? p l) ≡ true → (every? p l ≡ true → p x ≡ true → every? p (l ++ (x ∷ [])) ≡ true) → (b && every? p (l ++ (x ∷ []))) ≡ true
+      go true e r = r e f
+      go false e r = e
+
+  pub each-less : (p : A → Bool) (l : List A) (x : A) (k : List A) → p x ≡ false → every? p (l ++ (x ∷ k)) ≡ false
+  unfolding every?
+  each-less p [] x k f = rw f refl
+  each-less p (y ∷ l) x k f = go (p y) (each-less p l x k f)
+    where
+      go : (b : Bool) → every? p (l ++ (x ∷ k)) ≡ false → (b && every? p (l ++ (x ∷ k))) ≡ false
+      go true e = e
+      go false e = refl
+
+-- a number that is not there, at the end
+pub fresh-more : (l : List ℕ) (n : ℕ) → repeats? l [] ≡ false → in? n l ≡ false → repeats? (l ++ (n ∷ [])) [] ≡ false
+unfolding repeats? in? some?
+fresh-more [] n e f = refl
+fresh-more (m ∷ l) n e f =
+    let h = neither (in? m l || false) (repeats? l []) e in
+    let a : in? m l ≡ false = sym (or-false (in? m l)) ∙ h .0 in
+    let g = neither (m == n) (in? n l) f in
+    let b : (n == m) ≡ false = turned n m ∙ g .0 in
+    let r : repeats? (l ++ (n ∷ [])) [] ≡ false = fresh-more l n (h .1) (g .1) in
+    let s : some? (λ k. k == m) (l ++ (n ∷ [])) ≡ false = some-append (λ k. k == m) l (n ∷ []) ∙ rw (a, b) refl in
+    rw (s, r) refl
+
+-- a number that is there, anywhere behind it
+pub twice : (l : List ℕ) (n : ℕ) (k : List ℕ) → in? n l ≡ true → repeats? (l ++ (n ∷ k)) [] ≡ true
+unfolding repeats? in? some?
+twice [] n k e = absurd (clashing e refl)
+twice (m ∷ l) n k e = go (m == n) refl (twice l n k)
+  where
+    go : (b : Bool) → (m == n) ≡ b → (in? n l ≡ true → repeats? (l ++ (n ∷ k)) [] ≡ true) → ((some? (λ j. j == m) (l ++ (n ∷ k)) || false) || repeats? (l ++ (n ∷ k)) []) ≡ true
+    go true q r =
+        let b : (n == m) ≡ true = turned n m ∙ q in
+        let s : some? (λ j. j == m) (l ++ (n ∷ k)) ≡ true = some-append (λ j. j == m) l (n ∷ k) ∙ rw b (or-true (in? m l)) in
+        rw s refl
+    go false q r =
+        let t : in? n l ≡ true = sym (ap (λ (b : Bool). b || in? n l) q) ∙ e in
+        rw (r t) (or-true (some? (λ j. j == m) (l ++ (n ∷ k)) || false))

@@ -1,0 +1,2 @@
+-- What the menu reader's parts hand on.
+pub mod Reads

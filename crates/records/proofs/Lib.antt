@@ -1,0 +1,2 @@
+-- The laws of records obeyed.
+pub mod ObeyLaws

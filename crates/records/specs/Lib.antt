@@ -1,0 +1,2 @@
+-- What a record leaves.
+pub mod Obeys
