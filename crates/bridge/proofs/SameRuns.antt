@@ -52,7 +52,7 @@ module _ {title : List ℕ} {h : History} {c : Card} (same : Same title h c) whe
       }
 
 -- on paper the card's answers are the rules'
-doing : (m : Model) {x : Call} → Doing x → answer m x ≡ only 0
+pub doing : (m : Model) {x : Call} → Doing x → answer m x ≡ only 0
 unfolding answer eventAnswer entryAnswer timerAnswer
 doing m (is.is-admin x) = refl
 doing m (is.is-set n v) = refl
@@ -63,19 +63,19 @@ doing m (is.is-disable n i) = refl
 doing m (is.is-release n k) = refl
 doing m (is.is-proactive x) = refl
 
-giving : (m : Model) {x : Call} → Giving x → paperGiven (givenOf (step m x .answer)) ≡ step m x .answer
+pub giving : (m : Model) {x : Call} → Giving x → paperGiven (givenOf (step m x .answer)) ≡ step m x .answer
 unfolding answer entryAnswer timerAnswer
 giving m (is.is-new n help text) = given-on-paper m _ refl
 giving m (is.is-allocate n) = given-on-paper m _ refl
 giving m (is.is-command buffer) = given-on-paper m _ refl
 
-naming : (m : Model) {x : Call} → Naming x → paperCalled (calledOf (step m x .answer)) ≡ step m x .answer
+pub naming : (m : Model) {x : Call} → Naming x → paperCalled (calledOf (step m x .answer)) ≡ step m x .answer
 unfolding answer arrivalAnswer
 naming m (is.is-arrival (envelope bytes)) = called-on-paper m _ refl
 naming m (is.is-arrival (profile bytes)) = called-on-paper m _ refl
 naming m is.is-settled = called-on-paper m _ refl
 
-telling : (m : Model) (n : ℕ) (v : ℤ) → paperTold (toldOf (step m (event (askEvent n v)) .answer)) ≡ step m (event (askEvent n v)) .answer
+pub telling : (m : Model) (n : ℕ) (v : ℤ) → paperTold (toldOf (step m (event (askEvent n v)) .answer)) ≡ step m (event (askEvent n v)) .answer
 unfolding answer eventAnswer
 telling m n v = told-on-paper m _ refl
 

@@ -7,9 +7,8 @@ use mathlib.Core.Bool.{Bool, true, false, not, Bool·beq, _&&_}
 use mathlib.Core.List.{List, [], _∷_, _++_}
 use Rattle.lists.specs.Tests.{if_then_else_, _==_}
 use Rattle.lists.specs.Lists.{change, keep}
-use Rattle.lists.proofs.Truth.{and-left, or-false}
-use Rattle.lists.proofs.Counts.{count-within}
-use Rattle.lists.proofs.Counts.{none-counted}
+use Rattle.lists.proofs.Truth.{and-left}
+use Rattle.lists.proofs.Counts.{count-within, none-counted}
 use Rattle.rules.specs.declared.Done.{Done}
 use Rattle.rules.specs.declared.Done.the-variants.{Accepted, Refused}
 use Rattle.rules.specs.declared.Applet as held-applet
@@ -32,15 +31,17 @@ use Rattle.runs.proofs.Filled.{Installs, installs}
 use Rattle.runs.proofs.Installed.{install-room}
 use Rattle.registry.specs.declared.Looked.{Looked}
 use Rattle.registry.specs.Looks.{lookedUp}
-use Rattle.registry.proofs.Table.{count-is, there-is, applet-is}
+use Rattle.registry.proofs.Table.{there-is, applet-is}
 use Rattle.install.specs.Refuses.{RefusesInstall}
+use Rattle.install.specs.Joins.{withNewcomer}
+use Rattle.install.proofs.Newcomer.{place-left}
 use Rattle.listeners.specs.Listens.{anyCode, alone}
 use Rattle.shown.specs.Asked.{isEnabledOf, hasEnabledRow}
 use Rattle.shown.proofs.DueApplets.{install-menu, delete-menu, lock-menu}
-use Rattle.due.specs.Turns.{dueDesk, markedDesk}
+use Rattle.due.specs.Turns.{markedDesk}
 use Rattle.due.proofs.EventTurns.{delete-events, lock-events}
 use Rattle.due.proofs.Quiet.{install-events}
-use Rattle.due.proofs.Marks.{marks-stored}
+use Rattle.due.proofs.Marks.{marks-stored, unmarked-desk}
 use Rattle.card.specs.declared.Card.{Card}
 use Rattle.card.specs.declared.Changed.{Changed}
 use Rattle.card.specs.View.{view, stored, Left}
@@ -52,19 +53,6 @@ use Rattle.card.proofs.Reply.{card-is, rows-form, bank-form, control-fo
 -- the call on a card gives this card with this answer
 abbrev Gives : Card → AdminCall → Card → Done → Type 0
 Gives c x k a = _≡_ {A = Changed} (record { card = k; answer = a }) (changedBy (step (view c) (admin x)))
-
--- what is marked for an applet, if it turns
-pub turn-marks
-    : (d : held-desk.Desk) {turns m e menu events : Bool} {r : held-desk.Desk} → turns ≡ true → m ≡ menu → e ≡ events → r ≡ markedDesk m e d → r ≡ markedDesk (turns && menu) (turns && events) d
-turn-marks d h p q s = rw (h, ← p, ← q) s
-
-pub turn-nothing : {turns : Bool} (menu events : Bool) (d : held-desk.Desk) → turns ≡ false → d ≡ markedDesk (turns && menu) (turns && events) d
-unfolding markedDesk dueDesk
-turn-nothing menu events d h = rw h (go (d .session))
-  where
-    go : (b : Bool) → d ≡ (if b then dueDesk d false false else d)
-    go true = rw (or-false (d .«menu_due»), or-false (d .«events_due»)) refl
-    go false = refl
 
 -- an accepted call, by the tables that it leaves
 module _ (c : Card) (l : Left c) (x : AdminCall) (zero : 0 ≡ refusal (view c) (admin x)) (u : Tables) (is : adminTables (view c .tables) x ≡ u) where
@@ -210,9 +198,9 @@ module _ (c : Card) (l : Left c) (n : ℕ) (q : Request) (r : ℕ) (is : Refuses
     allowed : Installs (view c .tables) n q
     allowed = installs (view c) n q (sym install-refusal ∙ zero)
 
-    pub place-left : c .applets .count < 8
+    joins : withNewcomer n q (viewApplets (c .applets)) ≡ viewApplets (c .applets) ++ newcomer n q ∷ []
     unfolding view
-    place-left = omega (arith, count-is (c .applets) (tidy-applets c l), install-room (view c .tables) (left-sound c l .tables) n q allowed)
+    joins = place-left n q (viewApplets (c .applets)) (install-room (view c .tables) (left-sound c l .tables) n q allowed)
 
     -- no row is the newcomer's, so what is shown stays
     no-row : hasEnabledRow n (view c .tables .rows) ≡ false
@@ -232,14 +220,14 @@ module _ (c : Card) (l : Left c) (n : ℕ) (q : Request) (r : ℕ) (is : Refuses
     desk-stays : c .desk ≡ storedDesk (marked (view c .tables) grown (view c .desk))
     unfolding adminTables
     desk-stays =
-        turn-nothing {turns = false} false false (c .desk) refl
+        unmarked-desk (c .desk)
         ∙ marks-stored (view c .tables) grown (view c .desk) (desk-form c l)
         (sym (install-menu (view c .tables) (left-sound c l .tables .numbers-apart) n q no-row))
         (sym (install-events (view c .tables) n q))
 
     pub install-accepts
         : {a : Applets}
-        → a ≡ storedApplets (viewApplets (c .applets) ++ newcomer n q ∷ [])
+        → a ≡ storedApplets (withNewcomer n q (viewApplets (c .applets)))
         → Gives c (install n q) (record { applets = a; rows = c .rows; bank = c .bank; control = c .control; desk = c .desk }) Accepted
     unfolding view adminTables
-    install-accepts p = admin-accepts c l (install n q) (sym zero ∙ install-refusal) grown refl p (rows-form c l) (bank-form c l) (control-form c l) desk-stays
+    install-accepts p = admin-accepts c l (install n q) (sym zero ∙ install-refusal) grown refl (p ∙ ap storedApplets joins) (rows-form c l) (bank-form c l) (control-form c l) desk-stays

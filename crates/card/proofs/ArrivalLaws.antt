@@ -5,49 +5,39 @@ use native.Mathlib.Omega.{arith}
 use mathlib.Core.Path.{_≡_, refl, sym, ap, _∙_}
 use mathlib.Core.Bool.{Bool, true, false, not}
 use mathlib.Core.List.{List, [], _∷_, map}
-use lib.ListN.{length, take}
-use Rattle.lists.specs.Tests.{if_then_else_, _==_}
-use Rattle.lists.specs.Lists.{Every, empty?, padded}
-use Rattle.lists.proofs.Truth.{or-false}
+use lib.ListN.{length}
+use Rattle.lists.specs.Lists.{Every, empty?}
 use Rattle.lists.proofs.Every.{every-so}
+use Rattle.lists.specs.Tests.{if_then_else_}
 use Rattle.rules.specs.declared.Called.{Called}
 use Rattle.rules.specs.declared.Marks.{Marks}
 use Rattle.rules.specs.declared.Applets.{Applets}
 use Rattle.rules.specs.declared.Rows.{Rows}
 use Rattle.rules.specs.declared.Desk as held
-use Rattle.rules.specs.declared.Kind.{Kind}
 use Rattle.rules.specs.declared.Kind.the-variants.{Event}
 use Rattle.rules.specs.declared.Envelope.{Envelope}
-use Rattle.rules.specs.declared.Envelope.the-variants.{Menu, Expiry, Malformed}
 use Rattle.rules.specs.Holds.{Applet, Row, Bounds, Tables, Desk, Model, withApplets}
-use Rattle.rules.specs.Events.{kindOfCode}
 use Rattle.rules.specs.Envelopes.{envelopeOf, badEnvelope}
 use Rattle.rules.specs.Applets.{usedUp}
-use Rattle.rules.specs.Timers.{ownerOf}
-use Rattle.rules.specs.Held.{viewApplets, storedApplets, viewRows, storedRows, viewDesk, storedDesk}
-use Rattle.rules.specs.Arrivals.{Arrival, choice, help, expiry, nothing, download, arrivalOf, wants, called, responds, profileArrival, settledArrival, proactiveOnly}
+use Rattle.rules.specs.Held.{viewApplets, storedApplets, viewRows, viewDesk}
+use Rattle.rules.specs.Arrivals.{Arrival, nothing, arrivalOf, called, envelopeMarks, profileArrival, settledArrival, proactiveOnly}
 use Rattle.rules.specs.Calls.{Call, arrival, envelope, profile, settled, calling}
-use Rattle.rules.specs.Commands.{shownMenu, shownEvents}
-use Rattle.rules.specs.Desk.{menuChanges, eventsChange, marked, withProfile}
+use Rattle.rules.specs.Desk.{marked, withProfile}
 use Rattle.rules.specs.Refusals.{refusal, lines, lowest, arrivalLines}
 use Rattle.rules.specs.Step.{step, changed, tablesAfter, deskAfter, arrivalDesk, answer, arrivalAnswer}
 use Rattle.rules.proofs.Due.{marked-same}
 use Rattle.runs.specs.Sound.{SoundApplet}
 use Rattle.callers.specs.declared.Callees.{Callees}
-use Rattle.callers.specs.Listed.{listed, CallsForEvent, CallsOwner}
-use Rattle.callers.proofs.Owners.{calls-nobody, expiry-owner}
-use Rattle.shown.specs.Asked.{choiceOwner, helpOwner}
+use Rattle.callers.specs.Listed.{listed, CallsForEvent}
 use Rattle.shown.proofs.DueApplets.{settled-menu}
-use Rattle.shown.proofs.Promise.{choice-calls, help-calls}
 use Rattle.due.proofs.Quiet.{settled-events}
-use Rattle.display.specs.declared.Codes.{Codes}
-use Rattle.display.specs.Shows.{Able, rowsBy, ShowsCodes}
-use Rattle.display.proofs.Promise.{rows-shown, counted}
+use Rattle.due.proofs.Marks.{marked-none}
 use Rattle.card.specs.declared.Card.{Card}
 use Rattle.card.specs.declared.Arrived.{Arrived}
 use Rattle.card.specs.View.{view, stored, Left}
-use Rattle.card.specs.Reply.{calledOf, arrivedBy, refusing, naming}
-use Rattle.card.specs.Parts.{Begins, CallsForCode}
+use Rattle.parts.specs.Answers.{refusing, naming}
+use Rattle.parts.specs.Parts.{Begins, CallsFor}
+use Rattle.card.specs.Reply.{calledOf, arrivedBy}
 use Rattle.card.proofs.Left.{left-form, left-sound, left-bounds}
 use Rattle.card.proofs.Reply.{card-is, applets-form, rows-form, bank-form, control-form, desk-form, refused-arrived, accepted-arrived}
 
@@ -60,15 +50,6 @@ names : (t : Tables) (x : Arrival) {marks m : Marks} {k : Callees} {a : Called} 
 unfolding calledOf
 names t x e f h = h ∙ rw (e, f) refl
 
--- a call that changes nothing of what is shown leaves the desk
-unmarked : (t u : Tables) (d : Desk) → menuChanges t u ≡ false → eventsChange t u ≡ false → marked t u d ≡ d
-unfolding marked
-unmarked t u d p q = rw (p, q, or-false (d .menuDue), or-false (d .eventsDue)) (either (d .session))
-  where
-    either : (b : Bool) → (if b then d else d) ≡ d
-    either true = refl
-    either false = refl
-
 -- SETTLED
 settled-refusal : (c : Card) → refusal (view c) settled ≡ (if c .desk .outstanding then 16 else 0)
 unfolding refusal lines lowest view viewDesk
@@ -79,7 +60,7 @@ settled-refuses c l e = refuses c l settled (sym (settled-refusal c ∙ ap (λ (
 
 settled-changes : (m : Model) → changed m settled ≡ record { tables = withApplets (m .tables) (map usedUp (m .tables .applets)); desk = m .desk }
 unfolding changed tablesAfter deskAfter
-settled-changes m = rw (unmarked (m .tables) (withApplets (m .tables) (map usedUp (m .tables .applets))) (m .desk) (settled-menu (m .tables)) (settled-events (m .tables))) refl
+settled-changes m = rw (marked-none (m .tables) (withApplets (m .tables) (map usedUp (m .tables .applets))) (m .desk) (settled-menu (m .tables)) (settled-events (m .tables))) refl
 
 pub settled-accepts
     : (c : Card)
@@ -125,30 +106,6 @@ module _ (c : Card) (l : Left c) where
       let b = ap (λ (k : Bounds). k .applets) (left-bounds c l) in
       every-so (SoundApplet (view c .tables .bounds)) _ (λ x s. omega (arith, s .number-to, b)) (view c .tables .applets) (left-sound c l .tables .each-applet)
 
--- the desk by what is shown
-pub begins
-    : (applets : List Applet) (rows : List Row) (bytes : List ℕ) (k : held.Desk) {able : List Bool} {shown : Rows} {codes : Codes} {kept : List ℕ}
-    → Able applets able
-    → shown ≡ storedRows (rowsBy able rows)
-    → ShowsCodes applets codes
-    → kept ≡ padded 32 0 (take 32 bytes)
-    → Begins applets rows bytes k
-    (record {
-      title = k .title;
-      «title_len» = k .«title_len»;
-      profile = kept;
-      session = true;
-      outstanding = false;
-      «menu_due» = not (shown .count == 0);
-      «events_due» = not (codes .count == 0);
-    })
-unfolding storedDesk storedRows withProfile
-begins applets rows bytes k {able} {shown} {codes} a s o f t d e g h i =
-    let m : shown .count ≡ length (shownMenu t) =
-    ap (λ (x : Rows). x .count) s ∙ ap (λ (x : List Row). length (rowsBy able x)) (sym g) ∙ ap length (rows-shown t able (rw e a) (rw e h)) in
-    let n : codes .count ≡ length (shownEvents t) = ap (λ (x : Codes). x .count) (o t e) in
-    rw (m, n, f, i, counted (shownMenu t), counted (shownEvents t)) refl
-
 profile-changes : (m : Model) (bytes : List ℕ) → changed m (arrival (profile bytes)) ≡ record { tables = m .tables; desk = withProfile (m .tables) bytes (m .desk) }
 unfolding changed tablesAfter deskAfter arrivalDesk
 profile-changes m bytes = rw (marked-same (m .tables) (withProfile (m .tables) bytes (m .desk))) refl
@@ -172,58 +129,6 @@ profile-accepts c l bytes e f g h i =
     (names (view c .tables) profileArrival (f (view c .tables) refl refl) g h)
 
 -- ENVELOPE
--- an event download, by what its code is
-pub code-calls
-    : (l : List Applet) (control code place : ℕ) {k : Kind} {r : Callees}
-    → k ≡ kindOfCode code
-    → k ≡ Event place
-    → CallsForEvent l place control r
-    → CallsForCode l control code r
-unfolding download
-code-calls l control code place e v f t g h = f t g h ∙ ap (λ (k : Kind). listed (called t (download k))) (sym v ∙ e)
-
-pub code-nobody
-    : (l : List Applet) (control code : ℕ) {k y : Kind} {r : Callees}
-    → k ≡ kindOfCode code
-    → k ≡ y
-    → download y ≡ nothing
-    → r ≡ listed []
-    → CallsForCode l control code r
-unfolding wants
-code-nobody l control code e v n f t g h =
-    f ∙ ap listed (sym (ap (λ (k : Kind). called t (download k)) (sym e ∙ v) ∙ ap (called t) n ∙ calls-nobody t nothing (λ x. refl)))
-
--- by the variant that the envelope is known at
-pub called-as : (t : Tables) {e y : Envelope} {r : Callees} → e ≡ y → r ≡ listed (called t (arrivalOf y)) → r ≡ listed (called t (arrivalOf e))
-called-as t v h = h ∙ ap (λ (x : Envelope). listed (called t (arrivalOf x))) (sym v)
-
-module _ (c : Card) (l : Left c) where
-  abbrev t : Tables
-  t = view c .tables
-
-  -- one that is for a row's owner, for a timer's owner, or for nobody
-  pub menu-calls
-      : (item : ℕ) (h : Bool) {o : ℕ} {r : Callees}
-      → o ≡ (if h then helpOwner item (viewRows (c .rows)) else choiceOwner item (viewRows (c .rows)))
-      → CallsOwner (viewApplets (c .applets)) o r
-      → r ≡ listed (called t (arrivalOf (Menu item h)))
-  unfolding arrivalOf view
-  menu-calls item false e f =
-      f t (choice item) refl
-      (every-so (SoundApplet (t .bounds)) _ (λ x s. choice-calls t item x (left-sound c l .tables .identifiers-apart) (s .number-from) ∙ ap (λ (n : ℕ). n == x .number) (sym e)) (t .applets) (left-sound c l .tables .each-applet))
-  menu-calls item true e f =
-      f t (help item) refl
-      (every-so (SoundApplet (t .bounds)) _ (λ x s. help-calls t item x (left-sound c l .tables .identifiers-apart) (s .number-from) ∙ ap (λ (n : ℕ). n == x .number) (sym e)) (t .applets) (left-sound c l .tables .each-applet))
-
-  pub expiry-calls
-      : (timer : ℕ) {o : ℕ} {r : Callees} → o ≡ ownerOf (c .bank .owner) timer → CallsOwner (viewApplets (c .applets)) o r → r ≡ listed (called t (arrivalOf (Expiry timer)))
-  unfolding arrivalOf view
-  expiry-calls timer e f = f t (expiry timer) refl (rw e (expiry-owner t timer))
-
-  pub nobody-called : {r : Callees} → r ≡ listed [] → r ≡ listed (called t (arrivalOf Malformed))
-  unfolding arrivalOf wants
-  nobody-called e = e ∙ ap listed (sym (calls-nobody t nothing (λ x. refl)))
-
 envelope-refusal : (c : Card) (bytes : List ℕ) → refusal (view c) (arrival (envelope bytes)) ≡ (if badEnvelope (envelopeOf bytes) then 1 else 0)
 unfolding refusal lines arrivalLines lowest
 envelope-refusal c bytes = refl
@@ -250,16 +155,17 @@ envelope-changes m bytes = rw (marked-same (m .tables) (m .desk)) refl
 pub envelope-accepts
     : (c : Card)
     → Left c
-    → (bytes : List ℕ) {e : Envelope} {b p : Bool} {k : Callees} {a : Called}
+    → (bytes : List ℕ) {e : Envelope} {b : Bool} {k : Callees} {m : Marks} {a : Called}
     → e ≡ envelopeOf bytes
     → b ≡ badEnvelope e
     → b ≡ false
-    → k ≡ listed (called (view c .tables) (arrivalOf e))
-    → p ≡ responds e
-    → a ≡ naming k (record { proactive = not (c .desk .outstanding); envelope = true; response = p })
+    → CallsFor (viewApplets (c .applets)) (viewRows (c .rows)) (c .bank .owner) (c .control) e k
+    → m ≡ envelopeMarks (c .desk .outstanding) e
+    → a ≡ naming k m
     → _≡_ {A = Arrived} (record { card = c; answer = a }) (arrivedBy (step (view c) (arrival (envelope bytes))))
 unfolding answer arrivalAnswer view viewDesk
 envelope-accepts c l bytes {e} i j n f g h =
     accepted-arrived c l (arrival (envelope bytes)) (by-envelope c bytes i j n) refl (left-form c l ∙ ap stored (sym (envelope-changes (view c) bytes)))
-    (names (view c .tables) (arrivalOf (envelopeOf bytes)) (f ∙ ap (λ (x : Envelope). listed (called (view c .tables) (arrivalOf x))) i)
-    (ap (λ (x : Bool). record { proactive = not (c .desk .outstanding); envelope = true; response = x }) (g ∙ ap responds i)) h)
+    (names (view c .tables) (arrivalOf (envelopeOf bytes))
+    (f (view c .tables) refl refl refl refl (left-sound c l .tables) ∙ ap (λ (x : Envelope). listed (called (view c .tables) (arrivalOf x))) i)
+    (g ∙ ap (envelopeMarks (c .desk .outstanding)) i) h)

@@ -6,7 +6,6 @@ use mathlib.Core.Path.{_≡_, refl, sym, ap, subst, _∙_}
 use mathlib.Core.Bool.{Bool, true, false, _&&_}
 use mathlib.Core.List.{List, [], _∷_, _++_}
 use lib.ListN.{length, take, drop, length-append}
-use borrow.Author.Tests.{lt-ltb, le-ltb}
 use Rattle.lists.specs.Tests.{if_then_else_, _<?_}
 use Rattle.lists.specs.Lists.{Every, padded}
 use Rattle.lists.proofs.Padded.{length-padded, take-padded}
@@ -21,7 +20,7 @@ use Rattle.rules.specs.Held.{viewApplets, viewRows, storedRows, TidyRows, viewD
 use Rattle.rules.specs.Calls.{systemCommand, Outcome, numbered}
 use Rattle.rules.specs.Commands.{selectable, shownMenu, listened, shownFrom, shownEvents, menuOf, menuBytes, commandBytes, detailBytes, lengthBytes, eventBytes}
 use Rattle.rules.specs.Desk.{dueCommand, withHandedOut}
-use Rattle.rules.specs.Refusals.{refusal, lines, lowest}
+use Rattle.rules.specs.Refusals.{refusal, line, lines, lowest}
 use Rattle.rules.specs.Step.{step, changed, tablesAfter, deskAfter, answer, front, written, lent}
 use Rattle.rules.proofs.Due.{marked-same}
 use Rattle.rules.proofs.Held.{rows-back}
@@ -34,48 +33,14 @@ use Rattle.command.proofs.Whole.{menu-most, length-most}
 use Rattle.display.specs.declared.Codes.{Codes}
 use Rattle.display.specs.Shows.{Able, rowsBy, ShowsCodes}
 use Rattle.display.proofs.Promise.{rows-shown}
+use Rattle.parts.specs.Parts.{HandsOut}
 use Rattle.card.specs.declared.Card.{Card}
 use Rattle.card.specs.declared.Numbered.{Numbered}
 use Rattle.card.specs.View.{view, Left}
 use Rattle.card.specs.Reply.{numberedBy}
-use Rattle.card.specs.Parts.{HandsOut}
 use Rattle.card.proofs.Left.{left-sound, left-bounds}
 use Rattle.card.proofs.Reply.{card-is, applets-form, rows-form, bank-form, control-form, desk-form, when-refused, when-accepted, refused-numbered, accepted-numbered}
 use Rattle.card.proofs.ArrivalLaws.{numbers-small}
-
--- THE DESK
-module _ (k : held.Desk) where
-  abbrev handed : (menu events : Bool) → held.Desk → held.Desk
-  handed menu events d =
-      record {
-        title = d .title;
-        «title_len» = d .«title_len»;
-        profile = d .profile;
-        session = d .session;
-        outstanding = true;
-        «menu_due» = menu;
-        «events_due» = events;
-      }
-
-  pub hands-menu : k .«menu_due» ≡ true → HandsOut k (handed false (k .«events_due») k)
-  unfolding storedDesk withHandedOut
-  hands-menu h d e =
-      let m : d .menuDue ≡ true = ap (λ (x : held.Desk). x .«menu_due») (sym e) ∙ h in
-      ap (λ (x : held.Desk). handed false (x .«events_due») x) e ∙ rw m refl
-
-  pub hands-events : k .«menu_due» ≡ false → k .«events_due» ≡ true → HandsOut k (handed (k .«menu_due») false k)
-  unfolding storedDesk withHandedOut
-  hands-events h i d e =
-      let m : d .menuDue ≡ false = ap (λ (x : held.Desk). x .«menu_due») (sym e) ∙ h in
-      let n : d .eventsDue ≡ true = ap (λ (x : held.Desk). x .«events_due») (sym e) ∙ i in
-      ap (λ (x : held.Desk). handed (x .«menu_due») false x) e ∙ rw (m, n) refl
-
-  pub hands-nothing : k .«menu_due» ≡ false → k .«events_due» ≡ false → HandsOut k k
-  unfolding storedDesk withHandedOut
-  hands-nothing h i d e =
-      let m : d .menuDue ≡ false = ap (λ (x : held.Desk). x .«menu_due») (sym e) ∙ h in
-      let n : d .eventsDue ≡ false = ap (λ (x : held.Desk). x .«events_due») (sym e) ∙ i in
-      e ∙ rw (m, n) refl
 
 -- THE COMMAND
 few-codes : (t : Tables) (e : ℕ) (l : List ℕ) → length (shownFrom t e l) ≤ length l
@@ -190,31 +155,6 @@ module _ (c : Card) (l : Left c) where
 
   -- THE CALL
   module _ (buffer : List ℕ) where
-    hand-refusal : refusal (view c) (systemCommand buffer) ≡ (if c .desk .outstanding then 16 else if length buffer <? 256 then 18 else 0)
-    unfolding refusal lines lowest view viewDesk
-    hand-refusal = refl
-
-    -- the two answers and the buffer, refused
-    hand-refused
-        : {n : ℕ}
-        → n ≡ refusal (view c) (systemCommand buffer)
-        → (n ≡ 0 → ⊥)
-        → (_≡_ {A = Numbered} (record { card = c; answer = Refused n }) (numberedBy (step (view c) (systemCommand buffer)))) × (buffer ≡ step (view c) (systemCommand buffer) .buffer)
-    unfolding lent
-    hand-refused {n} e z =
-        (refused-numbered c l (systemCommand buffer) e z, sym (ap (λ (o : Outcome). o .buffer) (when-refused (view c) (systemCommand buffer) n e z)))
-
-    pub busy-refuses
-        : c .desk .outstanding ≡ true
-        → (_≡_ {A = Numbered} (record { card = c; answer = Refused 16 }) (numberedBy (step (view c) (systemCommand buffer)))) × (buffer ≡ step (view c) (systemCommand buffer) .buffer)
-    busy-refuses e = hand-refused (sym (hand-refusal ∙ rw e refl)) (λ z. absurd (omega arith))
-
-    pub short-refuses
-        : c .desk .outstanding ≡ false
-        → length buffer < 256
-        → (_≡_ {A = Numbered} (record { card = c; answer = Refused 18 }) (numberedBy (step (view c) (systemCommand buffer)))) × (buffer ≡ step (view c) (systemCommand buffer) .buffer)
-    short-refuses e h = hand-refused (sym (hand-refusal ∙ rw (e, lt-ltb (length buffer) 256 h) refl)) (λ z. absurd (omega arith))
-
     hand-changes : changed (view c) (systemCommand buffer) ≡ record { tables = t; desk = withHandedOut (view c .desk) }
     unfolding changed tablesAfter deskAfter
     hand-changes = rw (marked-same t (withHandedOut (view c .desk))) refl
@@ -224,21 +164,31 @@ module _ (c : Card) (l : Left c) where
     unfolding putAt front
     in-front {s} w = let z : 0 + length s ≡ length s = omega arith in w .after ∙ ap (λ (n : ℕ). s ++ drop n buffer) z
 
-    pub hand-accepts
-        : {x : List ℕ} {n : ℕ} {d : held.Desk}
-        → c .desk .outstanding ≡ false
-        → 256 ≤ length buffer
-        → Wrote buffer 0 (dueCommand t (view c .desk)) x n
-        → HandsOut (c .desk) d
-        → (_≡_ {A = Numbered}
-        (record { card = record { applets = c .applets; rows = c .rows; bank = c .bank; control = c .control; desk = d }; answer = Number n })
-        (numberedBy (step (view c) (systemCommand buffer))))
-        × (x ≡ step (view c) (systemCommand buffer) .buffer)
-    unfolding answer written
-    hand-accepts {n = n} e h w q =
-        let z : 0 ≡ refusal (view c) (systemCommand buffer) = sym (hand-refusal ∙ rw (e, le-ltb (length buffer) 256 h) refl) in (
-          accepted-numbered c l (systemCommand buffer) z refl
-              (rw hand-changes (card-is _ (applets-form c l) (rows-form c l) (bank-form c l) (control-form c l) (q (view c .desk) (desk-form c l))))
-              (let k : length (dueCommand t (view c .desk)) ≡ n = omega (arith, w .next) in ap numbered k),
-          in-front w ∙ sym (ap (λ (o : Outcome). o .buffer) (when-accepted (view c) (systemCommand buffer) 0 z refl)),
-        )
+    module _ {r : ℕ} (e : r ≡ lowest (line 16 (c .desk .outstanding) ∷ line 18 (length buffer <? 256) ∷ [])) where
+      hand-refusal : r ≡ refusal (view c) (systemCommand buffer)
+      unfolding refusal lines view viewDesk
+      hand-refusal = e
+
+      pub hand-refuses
+          : (r ≡ 0 → ⊥)
+          → (_≡_ {A = Numbered} (record { card = c; answer = Refused r }) (numberedBy (step (view c) (systemCommand buffer)))) × (buffer ≡ step (view c) (systemCommand buffer) .buffer)
+      unfolding lent
+      hand-refuses z =
+          (refused-numbered c l (systemCommand buffer) hand-refusal z, sym (ap (λ (o : Outcome). o .buffer) (when-refused (view c) (systemCommand buffer) r hand-refusal z)))
+
+      pub hand-accepts
+          : {x : List ℕ} {n : ℕ} {d : held.Desk}
+          → r ≡ 0
+          → Wrote buffer 0 (dueCommand t (view c .desk)) x n
+          → HandsOut (c .desk) d
+          → (_≡_ {A = Numbered}
+          (record { card = record { applets = c .applets; rows = c .rows; bank = c .bank; control = c .control; desk = d }; answer = Number n })
+          (numberedBy (step (view c) (systemCommand buffer))))
+          × (x ≡ step (view c) (systemCommand buffer) .buffer)
+      unfolding answer written
+      hand-accepts {n = n} z w q = (
+        accepted-numbered c l (systemCommand buffer) hand-refusal z
+            (rw hand-changes (card-is _ (applets-form c l) (rows-form c l) (bank-form c l) (control-form c l) (q (view c .desk) (desk-form c l))))
+            (let k : length (dueCommand t (view c .desk)) ≡ n = omega (arith, w .next) in ap numbered k),
+        in-front w ∙ sym (ap (λ (o : Outcome). o .buffer) (when-accepted (view c) (systemCommand buffer) r hand-refusal z)),
+      )

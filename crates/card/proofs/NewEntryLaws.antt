@@ -1,13 +1,14 @@
 -- The call that makes a menu entry, by the rules: its row stands where the applet's next pair asks.
 -- Assumes nothing.
-use Prim.Native.Nat.{ℕ, _≤_, _<_}
+use Prim.Native.Nat.{ℕ, _<_}
 use native.Mathlib.Omega.{arith}
-use mathlib.Core.Path.{_≡_, refl, sym, ap, _∙_}
-use mathlib.Core.Bool.{Bool, false}
-use mathlib.Core.List.{List}
-use lib.ListN.{length, getD}
+use mathlib.Core.Path.{_≡_, sym, ap, _∙_}
+use mathlib.Core.Bool.{Bool, false, not}
+use mathlib.Core.List.{List, [], _∷_}
+use lib.ListN.{length, take, getD}
+use lib.Seq.{take-all}
 use Rattle.lists.specs.Tests.{_≤?_}
-use Rattle.lists.specs.Lists.{first, change, insertAt}
+use Rattle.lists.specs.Lists.{change, insertAt}
 use Rattle.lists.proofs.Padded.{get-padded}
 use Rattle.rules.specs.declared.Given.the-variants.{Number, Refused}
 use Rattle.rules.specs.declared.Applet as held-applet
@@ -16,13 +17,13 @@ use Rattle.rules.specs.declared.Row as held-row
 use Rattle.rules.specs.declared.Pair.{Pair}
 use Rattle.rules.specs.declared.Applets.{Applets}
 use Rattle.rules.specs.declared.Rows.{Rows}
-use Rattle.rules.specs.Holds.{Applet, Row, Bounds, Tables, Model, withOneMore}
+use Rattle.rules.specs.Holds.{Applet, Row, Bounds, Tables, withOneMore}
 use Rattle.rules.specs.Held.{viewApplet, viewApplets, storedApplet, storedApplets, viewRow, viewRows, storedRow, storedRows}
-use Rattle.rules.specs.Applets.{hasNumber, present, applet, nobody, entries}
-use Rattle.rules.specs.Rows.{noPair, place, identifierFor, nextPair, nextIdentifier, allMade, badText, withEntry}
+use Rattle.rules.specs.Applets.{hasNumber, applet, entries}
+use Rattle.rules.specs.Rows.{noPair, place, identifierFor, nextPair, nextIdentifier, badText, withEntry}
 use Rattle.rules.specs.Desk.{marked}
 use Rattle.rules.specs.Calls.{entry, newEntry, numbered}
-use Rattle.rules.specs.Refusals.{absent, refusal, lines, entryLines, lowest}
+use Rattle.rules.specs.Refusals.{line, lowest, refusal}
 use Rattle.rules.specs.Step.{step, changed, tablesAfter, deskAfter, entryTables, answer, entryAnswer}
 use Rattle.runs.specs.Sound.{SoundApplet}
 use Rattle.runs.proofs.Looked.{has-its-number, sound-applet}
@@ -30,35 +31,25 @@ use Rattle.runs.proofs.Filled.{NewEntry, new-entry}
 use Rattle.runs.proofs.Granted.{entry-has-place}
 use Rattle.registry.specs.declared.Looked.{Looked}
 use Rattle.registry.specs.Looks.{lookedUp}
-use Rattle.registry.proofs.Table.{applet-is}
-use Rattle.menu.specs.Table.{newRow, TidyRow}
-use Rattle.menu.proofs.Tidy.{row-back, tidy-row, count-is}
+use Rattle.registry.specs.Counts.{countedOn}
+use Rattle.registry.proofs.Table.{applet-is, counted}
+use Rattle.menu.specs.Table.{newRow, withRow, TidyRow}
+use Rattle.menu.proofs.Tidy.{row-back, tidy-row, inserted-room}
 use Rattle.shown.proofs.DueApplets.{entry-menu}
 use Rattle.due.specs.Turns.{markedDesk}
 use Rattle.due.proofs.Marks.{marks-stored}
 use Rattle.due.proofs.EventTurns.{entry-events}
+use Rattle.refusals.proofs.Calls.{new-refusal}
 use Rattle.card.specs.declared.Card.{Card}
 use Rattle.card.specs.declared.Numbered.{Numbered}
 use Rattle.card.specs.View.{view, Left}
 use Rattle.card.specs.Reply.{numberedBy}
-use Rattle.card.proofs.Left.{left-sound, left-bounds, tidy-rows}
+use Rattle.card.proofs.Left.{left-sound, left-bounds}
 use Rattle.card.proofs.Reply.{card-is, bank-form, control-form, desk-form, refused-numbered, accepted-numbered}
-use Rattle.card.proofs.EntryLaws.{early, textRefusal, three-lines, early-is, lock-is, text-is}
+use Rattle.card.proofs.EntryLaws.{lock-is}
 
-new-refusal : (m : Model) (n : ℕ) (help : Bool) (text : List ℕ) → textRefusal (early 10 (present (m .tables) n) (allMade (applet (m .tables) n))) (badText (applet (m .tables) n) text) ≡ refusal m (entry (newEntry n help text))
-unfolding refusal lines entryLines lowest absent
-new-refusal m n help text = three-lines 10 refl (present (m .tables) n) (allMade (applet (m .tables) n)) (badText (applet (m .tables) n) text)
-
--- What the look-up says of the applet: whether all its entries are made, and its next pair.
+-- What the look-up says of the applet's next pair.
 module _ (t : Tables) (n : ℕ) (x : Looked) (is : x ≡ lookedUp n (t .applets)) where
-  made-is : (x .applet .entries ≤? x .applet .made) ≡ allMade (applet t n)
-  unfolding allMade storedApplet
-  made-is = ap (λ (a : held-applet.Applet). a .entries ≤? a .made) (applet-is t n x is)
-
-  count-made : x .applet .made ≡ applet t n .made
-  unfolding storedApplet
-  count-made = ap (λ (a : held-applet.Applet). a .made) (applet-is t n x is)
-
   pair-is : applet t n .made < entries (applet t n) → getD (x .applet .pairs) (x .applet .made) noPair ≡ nextPair (applet t n)
   unfolding storedApplet nextPair
   pair-is h =
@@ -89,24 +80,13 @@ rows-are a n help text rows {p} {i} {r} own is f g h =
     ∙ ap (λ (q : Pair). storedRows (insertAt (place (q .position) (length rows)) (viewRow r) rows)) is
     ∙ ap (λ (y : Row). storedRows (insertAt (place (nextPair a .position) (length rows)) y rows)) row
 
--- What an accepted new entry takes for granted.
-pub record Ready (c : Card) (n : ℕ) (text : List ℕ) (x : Looked) : Type 0 where
-  pub next : x .applet .made < 4
-  pub fits : length text ≤ 15
-  pub room : c .rows .count < 12
-  pub more : first (hasNumber n) nobody (viewApplets (c .applets)) .made < 255
-
-module _ (c : Card) (l : Left c) (n : ℕ) (help : Bool) (text : List ℕ) (x : Looked) (is : x ≡ lookedUp n (viewApplets (c .applets))) {before r : ℕ} (e : before ≡ early 10 (x .there) (x .applet .entries ≤? x .applet .made)) (f : r ≡ textRefusal before (badText (viewApplet (x .applet)) text)) where
+module _ (c : Card) (l : Left c) (n : ℕ) (help : Bool) (text : List ℕ) (x : Looked) (is : x ≡ lookedUp n (viewApplets (c .applets))) {r : ℕ} (e : r ≡ lowest (line 2 (not (x .there)) ∷ line 10 (x .applet .entries ≤? x .applet .made) ∷ line 12 (badText (viewApplet (x .applet)) text) ∷ [])) where
   abbrev t : Tables
   t = view c .tables
 
   news-refusal : r ≡ refusal (view c) (entry (newEntry n help text))
   unfolding view
-  news-refusal =
-      f
-      ∙ ap (λ (k : ℕ). textRefusal k (badText (viewApplet (x .applet)) text)) (e ∙ early-is t n x is 10 (x .applet .entries ≤? x .applet .made) ∙ ap (early 10 (present t n)) (made-is t n x is))
-      ∙ ap (textRefusal (early 10 (present t n) (allMade (applet t n)))) (text-is t n x is text)
-      ∙ new-refusal (view c) n help text
+  news-refusal = new-refusal (view c) n x is help text e
 
   pub new-refused : (r ≡ 0 → ⊥) → _≡_ {A = Numbered} (record { card = c; answer = Refused r }) (numberedBy (step (view c) (entry (newEntry n help text))))
   new-refused z = refused-numbered c l (entry (newEntry n help text)) news-refusal z
@@ -118,38 +98,40 @@ module _ (c : Card) (l : Left c) (n : ℕ) (help : Bool) (text : List ℕ) (x : 
     sound : SoundApplet (t .bounds) (applet t n)
     sound = sound-applet t (left-sound c l .tables) n (news .here)
 
-    pub new-ready : Ready c n text x
+    whole : take 15 text ≡ text
+    whole = take-all 15 text (omega (arith, news .fits .to, sound .text, ap (λ (b : Bounds). b .text) (left-bounds c l)))
+
+    put : (p : ℕ) (new : Row) → withRow p new (t .rows) ≡ insertAt (place p (length (t .rows))) new (t .rows)
+    put p new =
+        inserted-room p new (t .rows)
+        (omega (arith, entry-has-place (view c) (left-sound c l) n help text (sym news-refusal ∙ z), ap (λ (b : Bounds). b .rows) (left-bounds c l)))
+
+    counts : change (hasNumber n) countedOn (viewApplets (c .applets)) ≡ change (hasNumber n) withOneMore (viewApplets (c .applets))
     unfolding view applet
-    new-ready =
-        let few : applet t n .made < 4 = omega (arith, news .more, sound .entries, ap (λ (b : Bounds). b .entries) (left-bounds c l)) in
-        record {
-          next = omega (arith, few, count-made t n x is);
-          fits = omega (arith, news .fits .to, sound .text, ap (λ (b : Bounds). b .text) (left-bounds c l));
-          room = omega (arith, entry-has-place (view c) (left-sound c l) n help text (sym news-refusal ∙ z), count-is (c .rows) (tidy-rows c l), ap (λ (b : Bounds). b .rows) (left-bounds c l));
-          more = omega (arith, few);
-        }
+    counts =
+        counted n (viewApplets (c .applets)) (omega (arith, news .more, sound .entries, ap (λ (b : Bounds). b .entries) (left-bounds c l)))
 
     pub new-accepted
         : {p : Pair} {i : ℕ} {row : held-row.Row} {next : Rows} {more : Applets} {d : held-desk.Desk}
         → p ≡ getD (x .applet .pairs) (x .applet .made) noPair
         → i ≡ identifierFor (p .identifier) (viewRows (c .rows))
-        → row ≡ storedRow (newRow i n help text)
-        → next ≡ storedRows (insertAt (place (p .position) (length (viewRows (c .rows)))) (viewRow row) (viewRows (c .rows)))
-        → more ≡ storedApplets (change (hasNumber n) withOneMore (viewApplets (c .applets)))
+        → row ≡ storedRow (newRow i n help (take 15 text))
+        → next ≡ storedRows (withRow (p .position) (viewRow row) (viewRows (c .rows)))
+        → more ≡ storedApplets (change (hasNumber n) countedOn (viewApplets (c .applets)))
         → d ≡ markedDesk (x .applet .selectable) false (c .desk)
         → _≡_ {A = Numbered}
         (record { card = record { applets = more; rows = next; bank = c .bank; control = c .control; desk = d }; answer = Number i })
         (numberedBy (step (view c) (entry (newEntry n help text))))
     unfolding changed tablesAfter deskAfter entryTables answer entryAnswer nextIdentifier view
-    new-accepted {p} g h o q s u =
+    new-accepted {p} {i} {row} g h o q s u =
         let a = applet t n in
         let its : p ≡ nextPair a = g ∙ pair-is t n x is (news .more) in
         let apart = left-sound c l .tables .numbers-apart in
         let after = entryTables t (newEntry n help text) in
         accepted-numbered c l (entry (newEntry n help text)) news-refusal z
         (card-is (record { tables = after; desk = marked t after (view c .desk) })
-        s
-        (rows-are a n help text (t .rows) (has-its-number t n (news .here)) its h o q)
+        (s ∙ ap storedApplets counts)
+        (rows-are a n help text (t .rows) (has-its-number t n (news .here)) its h (o ∙ ap (λ (y : List ℕ). storedRow (newRow i n help y)) whole) (q ∙ ap storedRows (put (p .position) (viewRow row))))
         (bank-form c l)
         (control-form c l)
         (u

@@ -6,14 +6,13 @@ use mathlib.Core.Path.{_≡_, refl, sym, ap, _∙_}
 use mathlib.Core.Bool.{Bool, true, false}
 use lib.ListN.{length}
 use borrow.Author.Tests.{ne-eqb}
-use Rattle.lists.specs.Tests.{if_then_else_}
 use Rattle.lists.specs.Lists.{change}
-use Rattle.lists.proofs.Truth.{or-false}
+use Rattle.lists.specs.Tests.{if_then_else_}
 use Rattle.rules.specs.declared.Applet as held-applet
 use Rattle.rules.specs.declared.Applets.{Applets}
 use Rattle.rules.specs.declared.Desk as held-desk
 use Rattle.rules.specs.declared.Kind.the-variants.{Event}
-use Rattle.rules.specs.Holds.{Tables, Desk, withApplets, withControl, withEvent}
+use Rattle.rules.specs.Holds.{Tables, withApplets, withControl, withEvent}
 use Rattle.rules.specs.Events.{callControl}
 use Rattle.rules.specs.Applets.{hasNumber, present, applet, forget, register, withRegistration}
 use Rattle.rules.specs.Desk.{menuChanges, eventsChange, marked}
@@ -23,10 +22,10 @@ use Rattle.registry.specs.Looks.{lookedUp}
 use Rattle.registry.proofs.Table.{there-is, applet-is}
 use Rattle.runs.proofs.Looked.{has-its-number, sound-applet}
 use Rattle.shown.proofs.DueApplets.{register-menu}
-use Rattle.due.specs.Turns.{eventTurns, markedDesk, markedBy}
+use Rattle.due.specs.Turns.{eventTurns, markedDesk}
 use Rattle.due.proofs.EventTurns.{event-events}
 use Rattle.due.proofs.Quiet.{control-events}
-use Rattle.due.proofs.Marks.{marked-by, marks-stored}
+use Rattle.due.proofs.Marks.{marked-none, marks-stored}
 use Rattle.card.specs.declared.Card.{Card}
 use Rattle.card.specs.View.{view, stored, Left}
 use Rattle.card.specs.Registrations.{registering}
@@ -37,15 +36,6 @@ use Rattle.card.proofs.Reply.{card-is, applets-form, rows-form, bank-fo
 menu-stays : (t : Tables) (n p : ℕ) (b : Bool) → menuChanges t (withRegistration t n p b) ≡ false
 unfolding register
 menu-stays t n p b = register-menu t n (Event p) b
-
--- what changes nothing of what is shown marks nothing
-unmarked : (d : Desk) → markedBy false false d ≡ d
-unfolding markedBy
-unmarked d = rw (or-false (d .menuDue), or-false (d .eventsDue)) (go (d .session))
-  where
-    go : (s : Bool) → (if s then d else d) ≡ d
-    go true = refl
-    go false = refl
 
 module _ (c : Card) (left : Left c) (n p : ℕ) (b : Bool) where
   abbrev t : Tables
@@ -63,7 +53,7 @@ module _ (c : Card) (left : Left c) (n p : ℕ) (b : Bool) where
     owned = rw (h, e) refl
 
     still : marked t (withControl t o) (view c .desk) ≡ view c .desk
-    still = marked-by t (withControl t o) (view c .desk) (ap (menuChanges t) (sym owned) ∙ menu-stays t n p b) (control-events t o) ∙ unmarked (view c .desk)
+    still = marked-none t (withControl t o) (view c .desk) (ap (menuChanges t) (sym owned) ∙ menu-stays t n p b) (control-events t o)
 
     pub control-registers
         : _≡_ {A = Card} (record { applets = c .applets; rows = c .rows; bank = c .bank; control = o; desk = c .desk }) (stored (registering (view c) n p b))

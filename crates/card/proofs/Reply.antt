@@ -2,17 +2,12 @@
 -- changed model. Every answer is the document's, and no refusal says more than its number. Assumes nothing.
 use Prim.Native.Nat.{ℕ, zero, suc}
 use mathlib.Core.Path.{_≡_, refl, sym, ap, _∙_}
-use mathlib.Core.Bool.{Bool, true, false}
-use mathlib.Core.List.{List, []}
-use lib.ListN.{length, replicate}
-use borrow.Author.Tests.{eq-eqb, ne-eqb}
-use Rattle.lists.specs.Tests.{if_then_else_, _==_}
+use mathlib.Core.Bool.{true, false}
+use lib.ListN.{replicate}
+use borrow.Author.Tests.{ne-eqb}
 use Rattle.lists.specs.Lists.{padded}
-use Rattle.rules.specs.declared.Done.{Done}
 use Rattle.rules.specs.declared.Done.the-variants as done
-use Rattle.rules.specs.declared.Given.{Given}
 use Rattle.rules.specs.declared.Given.the-variants as given
-use Rattle.rules.specs.declared.Told.{Told}
 use Rattle.rules.specs.declared.Told.the-variants as told
 use Rattle.rules.specs.declared.Called.{Called}
 use Rattle.rules.specs.declared.Applets.{Applets}
@@ -22,7 +17,7 @@ use Rattle.rules.specs.declared.Desk as held-desk
 use Rattle.rules.specs.Holds.{Model}
 use Rattle.rules.specs.Held.{storedApplets, storedRows, storedDesk}
 use Rattle.rules.specs.Arrivals.{noMarks}
-use Rattle.rules.specs.Calls.{Call, Answer, Outcome, only, numbered, saying, calling}
+use Rattle.rules.specs.Calls.{Call, Outcome, only, numbered, saying}
 use Rattle.rules.specs.Refusals.{refusal}
 use Rattle.rules.specs.Step.{changed, answer, written, lent, outcome, step}
 use Rattle.card.specs.declared.Card.{Card}

@@ -6,8 +6,6 @@ use mathlib.Core.Path.{_≡_, refl, sym, ap, _∙_}
 use mathlib.Core.Bool.{Bool, true, false}
 use mathlib.Core.List.{List}
 use borrow.Author.Tests.{le-leb}
-use Rattle.lists.specs.Tests.{if_then_else_}
-use Rattle.lists.proofs.Truth.{or-false}
 use Rattle.rules.specs.declared.Applet as held-applet
 use Rattle.rules.specs.declared.Bank.{Bank}
 use Rattle.rules.specs.declared.Done.{Done}
@@ -30,9 +28,8 @@ use Rattle.registry.proofs.Table.{there-is, applet-is}
 use Rattle.timers.specs.Promises.{Allocates, Releases}
 use Rattle.timers.proofs.Settled.{givenOf, doneOf, allocates-answer, allocates-owners, releases-answer, releases-owners, allocate-lines, release-lines}
 use Rattle.shown.proofs.DueApplets.{kept-menu}
-use Rattle.due.specs.Turns.{markedBy}
 use Rattle.due.proofs.Quiet.{timers-events}
-use Rattle.due.proofs.Marks.{marked-by}
+use Rattle.due.proofs.Marks.{marked-none}
 use Rattle.runs.proofs.Looked.{number-from, number-to}
 use Rattle.card.specs.declared.Card.{Card}
 use Rattle.card.specs.declared.Changed.{Changed}
@@ -43,17 +40,9 @@ use Rattle.card.proofs.Left.{left-sound, left-bounds}
 use Rattle.card.proofs.Reply.{card-is, applets-form, rows-form, control-form, desk-form, refused-changed, refused-numbered, accepted-changed, accepted-numbered}
 
 -- timers change nothing that is shown
-unmarked : (d : Desk) → markedBy false false d ≡ d
-unfolding markedBy
-unmarked d = rw (or-false (d .menuDue), or-false (d .eventsDue)) (go (d .session))
-  where
-    go : (b : Bool) → (if b then d else d) ≡ d
-    go true = refl
-    go false = refl
-
 timers-quiet : (t : Tables) (l : List ℕ) (d : Desk) → marked t (withTimers t l) d ≡ d
 unfolding selectable applet
-timers-quiet t l d = marked-by t (withTimers t l) d (kept-menu t (withTimers t l) refl (λ o. refl)) (timers-events t l) ∙ unmarked d
+timers-quiet t l d = marked-none t (withTimers t l) d (kept-menu t (withTimers t l) refl (λ o. refl)) (timers-events t l)
 
 -- an applet that is present has a number that owns timers
 owns : (c : Card) → Left c → (n : ℕ) → present (view c .tables) n ≡ true → isOwner n ≡ true

@@ -2,6 +2,4 @@
 pub mod View
 pub mod Reply
 pub mod Locks
-pub mod Sent
-pub mod Parts
 pub mod Registrations

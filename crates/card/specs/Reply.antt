@@ -1,7 +1,7 @@
 -- What a method hands back, by the rules' outcome of the call.
 use Prim.Native.Nat.{ℕ}
 use mathlib.Core.Bool.{Bool}
-use lib.ListN.{length, replicate}
+use lib.ListN.{length}
 use Rattle.lists.specs.Tests.{if_then_else_, _==_}
 use Rattle.lists.specs.Lists.{padded}
 use Rattle.rules.specs.declared.Done.{Done}
@@ -11,11 +11,8 @@ use Rattle.rules.specs.declared.Given.the-variants as given
 use Rattle.rules.specs.declared.Told.{Told}
 use Rattle.rules.specs.declared.Told.the-variants as told
 use Rattle.rules.specs.declared.Called.{Called}
-use Rattle.rules.specs.declared.Marks.{Marks}
-use Rattle.rules.specs.Arrivals.{noMarks}
 use Rattle.rules.specs.Calls.{Answer, Outcome, only}
 use Rattle.rules.specs.Beside.{FreshOutcome}
-use Rattle.callers.specs.declared.Callees.{Callees}
 use Rattle.card.specs.declared.Changed.{Changed}
 use Rattle.card.specs.declared.Numbered.{Numbered}
 use Rattle.card.specs.declared.Asked.{Asked}
@@ -36,13 +33,6 @@ toldOf a = if a .refusal == 0 then (if a .says then told.Yes else told.No) else 
 unfoldable pub calledOf : Answer → Called
 calledOf a =
     record { refusal = a .refusal; at = padded 8 0 (a .called); count = length (a .called); marks = a .marks }
-
--- the same of a refusal, and of those called
-abbrev pub refusing : ℕ → Called
-refusing n = record { refusal = n; at = replicate 8 0; count = 0; marks = noMarks }
-
-abbrev pub naming : Callees → Marks → Called
-naming c marks = record { refusal = 0; at = c .at; count = c .count; marks = marks }
 
 -- the card afterwards, with the answer
 unfoldable pub changedBy : Outcome → Changed

@@ -2,36 +2,14 @@
 // An accepted one marks due what it changes of the shown menu and the shown events.
 use crate::Card;
 use crate::Changed;
-use rules::Applet;
-use rules::Applets;
-use rules::Desk;
 use rules::Done;
 use rules::Request;
-use rules::Rows;
 ghost use mathlib.Core.Path.{_≡_};
-ghost use mathlib.Core.Bool.{_&&_};
-ghost use Rattle.rules.specs.Held.{viewApplets, viewRows, TidyApplets, TidyRows};
 ghost use Rattle.rules.specs.Calls.{admin, install, delete, lock, unlock};
 ghost use Rattle.rules.specs.Step.{step};
-ghost use Rattle.listeners.specs.Listens.{anyCode, alone};
-ghost use Rattle.shown.specs.Asked.{hasEnabledRow};
-ghost use Rattle.due.specs.Turns.{markedDesk};
 ghost use Rattle.card.specs.View.{view, Left};
 ghost use Rattle.card.specs.Reply.{changedBy};
 ghost use Rattle.card.specs.Locks.{locking};
-
-// The desk with what an applet changes of what is shown marked due, if it turns: its enabled rows, and the codes that it alone listens to.
-fn marked_for(desk: Desk, turns: bool, applets: Applets, rows: Rows, a: Applet) -> Desk
-    requires { ⌜ TidyApplets applets × TidyRows rows ⌝ }
-    ensures { λ r. ⌜ r ≡ markedDesk (turns && hasEnabledRow (a .number) (viewRows rows)) (turns && anyCode (alone (a .events) (a .number) (viewApplets applets))) desk ⌝ }
-{
-    if turns {
-        let menu = shown::has_enabled_row(rows, a.number);
-        let events = listeners::has_own_code(applets, a);
-        return due::marked(desk, menu, events);
-    }
-    desk
-}
 
 // Locks the applet, or makes it selectable.
 fn locked(card: Card, applet: u8, on: bool) -> Changed
@@ -51,7 +29,7 @@ fn locked(card: Card, applet: u8, on: bool) -> Changed
     let rows = card.rows;
     let mut next = card;
     next.applets = registry::locked(applets, applet, on);
-    next.desk = marked_for(desk, a.selectable != on, applets, rows, a);
+    next.desk = due::marked_for(desk, a.selectable != on, applets, rows, a);
     Changed {
         card: next,
         answer: Done::Accepted,
@@ -102,7 +80,7 @@ impl Card {
             rows: menu::without(rows, applet),
             bank: timers::freed(bank, applet),
             control: timers::forgotten(self.control, applet),
-            desk: marked_for(desk, a.selectable, applets, rows, a),
+            desk: due::marked_for(desk, a.selectable, applets, rows, a),
         };
         Changed {
             card: next,

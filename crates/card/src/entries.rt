@@ -3,87 +3,14 @@
 use crate::Card;
 use crate::Changed;
 use crate::Numbered;
-use rules::Applet;
 use rules::Done;
 use rules::Given;
-use rules::Pair;
-use rules::Rows;
 ghost use mathlib.Core.Path.{_≡_};
-ghost use mathlib.Core.Bool.{not, _&&_};
-ghost use Prim.Native.Nat.{_<_};
-ghost use lib.ListN.{getD};
-ghost use Rattle.lists.specs.Tests.{if_then_else_, _==_, _≤?_};
-ghost use Rattle.rules.specs.Rows.{noPair, notItsRow, badText};
-ghost use Rattle.rules.specs.Held.{viewApplet, viewRows, TidyRows};
+ghost use Rattle.lists.specs.Tests.{if_then_else_};
 ghost use Rattle.rules.specs.Calls.{entry, newEntry, changeEntry, enableEntry, disableEntry};
 ghost use Rattle.rules.specs.Step.{step};
 ghost use Rattle.card.specs.View.{view, Left};
 ghost use Rattle.card.specs.Reply.{changedBy, numberedBy};
-
-// One and the other.
-fn both(a: bool, b: bool) -> bool
-    ensures { λ r. ⌜ r ≡ (a && b) ⌝ }
-{
-    if a {
-        return b;
-    }
-    false
-}
-
-// The refusal of a call on a row by an applet that is there or not; 0 where the row is the applet's.
-fn row_refusal(there: bool, rows: Rows, applet: u8, identifier: u8) -> u8
-    requires { ⌜ TidyRows rows ⌝ }
-    ensures { λ r. ⌜ r ≡ (if not there then 2 else if notItsRow applet identifier (viewRows rows) then 11 else 0) ⌝ }
-{
-    if !there {
-        return 2;
-    }
-    let its = menu::is_its_row(rows, applet, identifier);
-    if its {
-        return 0;
-    }
-    11
-}
-
-// The refusal of a new entry, but for its text, by an applet that is there or not.
-fn made_refusal(there: bool, applet: Applet) -> u8
-    ensures { λ r. ⌜ r ≡ (if not there then 2 else if applet .entries ≤? applet .made then 10 else 0) ⌝ }
-{
-    if !there {
-        return 2;
-    }
-    if applet.entries <= applet.made {
-        return 10;
-    }
-    0
-}
-
-// The refusal of a text of the applet where nothing before it is refused.
-fn text_refusal(before: u8, applet: Applet, text: &[u8]) -> u8
-    ensures { λ r. ⌜ r ≡ (if before == 0 then (if badText (viewApplet applet) (now (text .entry)) then 12 else 0) else before) ⌝ }
-{
-    if before != 0 {
-        return before;
-    }
-    let n = text.len();
-    if n == 0 {
-        return 12;
-    }
-    let most = applet.text as usize;
-    if most < n {
-        return 12;
-    }
-    0
-}
-
-// The pair that the applet's next entry takes.
-fn next_pair(applet: Applet) -> Pair
-    requires { ⌜ applet .made < 4 ⌝ }
-    ensures { λ r. ⌜ r ≡ getD (applet .pairs) (applet .made) noPair ⌝ }
-{
-    let i = applet.made as usize;
-    applet.pairs[i]
-}
 
 impl Card {
     // Makes the applet's next entry: a row at its requested position, with its requested identifier or a free one.
@@ -96,17 +23,16 @@ impl Card {
         let desk = self.desk;
         let looked = registry::look(applets, applet);
         let owner = looked.applet;
-        let before = made_refusal(looked.there, owner);
-        let refusal = text_refusal(before, owner, text);
+        let refusal = refusals::new_refusal(looked.there, owner, text);
         if refusal != 0 {
             return Numbered {
                 card: self,
                 answer: Given::Refused(refusal),
             };
         }
-        let pair = next_pair(owner);
-        let identifier = menu::identifier_for(rows, pair.identifier);
-        let row = menu::row_of(identifier, applet, help, text);
+        let pair = parts::next_pair(owner);
+        let identifier = rows::identifier_for(rows, pair.identifier);
+        let row = rows::row_of(identifier, applet, help, text);
         let next = menu::inserted(rows, pair.position, row);
         let more = registry::one_more(applets, applet);
         let due = due::marked(desk, owner.selectable, false);
@@ -130,8 +56,7 @@ impl Card {
         let desk = self.desk;
         let looked = registry::look(applets, applet);
         let owner = looked.applet;
-        let before = row_refusal(looked.there, rows, applet, identifier);
-        let refusal = text_refusal(before, owner, text);
+        let refusal = refusals::change_refusal(looked.there, owner, rows, applet, identifier, text);
         if refusal != 0 {
             return Changed {
                 card: self,
@@ -139,9 +64,8 @@ impl Card {
             };
         }
         let turns = shown::turns_text(rows, identifier, help, text);
-        let shows = both(owner.selectable, turns);
-        let next = menu::changed(rows, identifier, help, text);
-        let due = due::marked(desk, shows, false);
+        let next = rows::changed(rows, identifier, help, text);
+        let due = due::marked_row(desk, owner.selectable, turns);
         let mut left = self;
         left.rows = next;
         left.desk = due;
@@ -160,7 +84,7 @@ impl Card {
         let rows = self.rows;
         let desk = self.desk;
         let looked = registry::look(applets, applet);
-        let refusal = row_refusal(looked.there, rows, applet, identifier);
+        let refusal = refusals::row_refusal(looked.there, rows, applet, identifier);
         if refusal != 0 {
             return Changed {
                 card: self,
@@ -168,9 +92,8 @@ impl Card {
             };
         }
         let turns = shown::turns_enabled(rows, identifier, on);
-        let shows = both(looked.applet.selectable, turns);
-        let next = menu::enabled(rows, identifier, on);
-        let due = due::marked(desk, shows, false);
+        let next = rows::enabled(rows, identifier, on);
+        let due = due::marked_row(desk, looked.applet.selectable, turns);
         let mut left = self;
         left.rows = next;
         left.desk = due;

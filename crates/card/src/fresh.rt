@@ -7,25 +7,10 @@ use rules::Done;
 ghost use mathlib.Core.Path.{_≡_};
 ghost use Prim.Native.Nat.{_≤_};
 ghost use lib.ListN.{length};
-ghost use Rattle.lists.specs.Lists.{padded};
 ghost use Rattle.rules.specs.Holds.{document, fresh};
 ghost use Rattle.rules.specs.Beside.{freshCard};
 ghost use Rattle.card.specs.View.{stored};
 ghost use Rattle.card.specs.Reply.{madeBy};
-
-// A title as the desk holds it.
-fn held_title(title: &[u8]) -> [u8; Desk::TITLE]
-    requires { ⌜ length (now title) ≤ 20 ⌝ }
-    ensures { λ r. ⌜ r ≡ padded 20 0 (now (title .entry)) ⌝ }
-{
-    let mut bytes = [0; Desk::TITLE];
-    let mut i = 0;
-    while i < title.len() {
-        bytes[i] = title[i];
-        i += 1;
-    }
-    bytes
-}
 
 // The card with a title of at most 20 bytes on which no call was made.
 fn made(title: &[u8]) -> Card
@@ -37,7 +22,7 @@ fn made(title: &[u8]) -> Card
     let bank = Bank {
         owner: [0; Bank::TIMERS],
     };
-    let held = held_title(title);
+    let held = writing::held_title(title);
     let desk = Desk {
         title: held,
         title_len: title.len() as u8,
@@ -61,11 +46,12 @@ impl Card {
     pub fn fresh(title: &[u8]) -> Changed
         ensures { λ r. ⌜ r ≡ madeBy (freshCard document (now (title .entry))) ⌝ }
     {
-        if Desk::TITLE < title.len() {
+        let refusal = refusals::title_refusal(title);
+        if refusal != 0 {
             let card = made(&title[..0]);
             return Changed {
                 card,
-                answer: Done::Refused(12),
+                answer: Done::Refused(refusal),
             };
         }
         let card = made(title);

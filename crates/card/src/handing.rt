@@ -1,7 +1,6 @@
 // Handing out: the command that is due, the menu first and then the event list, at the front of a lent buffer.
 use crate::Card;
 use crate::Numbered;
-use rules::Desk;
 use rules::Given;
 ghost use Prim.Native.Nat.{_<_, _≤_};
 ghost use mathlib.Core.Path.{_≡_};
@@ -12,25 +11,6 @@ ghost use Rattle.rules.specs.Step.{step};
 ghost use Rattle.lists.specs.Wrote.{Wrote};
 ghost use Rattle.card.specs.View.{view, Left};
 ghost use Rattle.card.specs.Reply.{numberedBy};
-ghost use Rattle.card.specs.Parts.{HandsOut};
-
-// The desk after handing out: the mark of what was due first is cleared, and a command is outstanding.
-fn handed_out(desk: Desk) -> Desk
-    ensures { λ r. ⌜ HandsOut desk r ⌝ }
-{
-    let mut next = desk;
-    if desk.menu_due {
-        next.menu_due = false;
-        next.outstanding = true;
-        return next;
-    }
-    if desk.events_due {
-        next.events_due = false;
-        next.outstanding = true;
-        return next;
-    }
-    desk
-}
 
 impl Card {
     // Writes the command that is due; how many bytes it has.
@@ -62,23 +42,17 @@ impl Card {
         requires { ⌜ Left self ⌝ }
         ensures { λ r. ⌜ (r ≡ numberedBy (step (view self) (systemCommand (now (buf .entry))))) × (now (buf .exit) ≡ step (view self) (systemCommand (now (buf .entry))) .buffer) ⌝ }
     {
-        let busy = self.desk.outstanding;
-        if busy {
+        let desk = self.desk;
+        let refusal = refusals::hand_refusal(desk.outstanding, buf.len());
+        if refusal != 0 {
             return Numbered {
                 card: self,
-                answer: Given::Refused(16),
-            };
-        }
-        if buf.len() < 256 {
-            return Numbered {
-                card: self,
-                answer: Given::Refused(18),
+                answer: Given::Refused(refusal),
             };
         }
         let n = self.put_due(buf);
-        let desk = self.desk;
         let mut left = self;
-        left.desk = handed_out(desk);
+        left.desk = parts::handed_out(desk);
         Numbered {
             card: left,
             answer: Given::Number(n as u8),

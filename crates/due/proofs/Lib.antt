@@ -2,3 +2,4 @@
 pub mod EventTurns
 pub mod Quiet
 pub mod Marks
+pub mod RowTurns

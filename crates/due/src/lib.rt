@@ -4,15 +4,17 @@ use rules::Applet;
 use rules::Applets;
 use rules::Desk;
 use rules::Kind;
-ghost use Prim.Native.Nat.{_<_};
+use rules::Rows;
 ghost use mathlib.Core.Path.{_≡_};
-ghost use mathlib.Core.Bool.{_||_};
-ghost use Rattle.rules.specs.Held.{viewApplets, TidyApplets};
+ghost use mathlib.Core.Bool.{false, _||_, _&&_};
+ghost use Rattle.rules.specs.Held.{viewApplets, viewRows, TidyApplets, TidyRows};
+ghost use Rattle.listeners.specs.Listens.{anyCode, alone};
+ghost use Rattle.shown.specs.Asked.{hasEnabledRow};
 ghost use Rattle.due.specs.Turns.{eventTurns, markedDesk};
 
 // Whether a registration of the applet that becomes `on` changes the shown events.
 pub fn event_turns(s: Applets, applet: Applet, event: u8, on: bool) -> bool
-    requires { ⌜ TidyApplets s × (event < 20) ⌝ }
+    requires { ⌜ TidyApplets s ⌝ }
     ensures { λ r. ⌜ r ≡ eventTurns (applet .selectable) (applet .events) (applet .number) (viewApplets s) event on ⌝ }
 {
     if event < Kind::MT_CALL {
@@ -51,6 +53,29 @@ pub fn marked(desk: Desk, menu: bool, events: bool) -> Desk
         next.menu_due = either(desk.menu_due, menu);
         next.events_due = either(desk.events_due, events);
         return next;
+    }
+    desk
+}
+
+// In a session, the menu is marked due if a row of the applet turns and the applet is selectable.
+pub fn marked_row(desk: Desk, selectable: bool, turns: bool) -> Desk
+    ensures { λ r. ⌜ r ≡ markedDesk (selectable && turns) false desk ⌝ }
+{
+    if selectable {
+        return marked(desk, turns, false);
+    }
+    desk
+}
+
+// In a session, what an applet that turns changes of what is shown is marked due: its enabled rows, and the codes that it alone listens to.
+pub fn marked_for(desk: Desk, turns: bool, applets: Applets, rows: Rows, a: Applet) -> Desk
+    requires { ⌜ TidyApplets applets × TidyRows rows ⌝ }
+    ensures { λ r. ⌜ r ≡ markedDesk (turns && hasEnabledRow (a .number) (viewRows rows)) (turns && anyCode (alone (a .events) (a .number) (viewApplets applets))) desk ⌝ }
+{
+    if turns {
+        let menu = shown::has_enabled_row(rows, a.number);
+        let events = listeners::has_own_code(applets, a);
+        return marked(desk, menu, events);
     }
     desk
 }

@@ -1,12 +1,15 @@
 -- Laws of kinds: which places a value or a code names, what may be set, and that codes ascend.
 -- Assumes nothing.
-use mathlib.Core.Path.{_≡_, refl, sym}
+use mathlib.Core.Path.{_≡_, refl, sym, ap, _∙_}
 use mathlib.Core.Bool.{Bool, true, false}
 use mathlib.Core.List.{List, [], _∷_, map}
 use Prim.Native.Nat.{ℕ, suc, _+_, _≤_, _<_}
 use native.Mathlib.Omega.{arith}
 use lib.IntN.{ℤ, pos}
 use lib.Signed.{ltZ}
+use mir.Syntax.{w16}
+use mir.Val.{SFits, ofZ, toZ}
+use mir.ValLaws.{toZ-ofZ}
 use lib.ListN.{length}
 use borrow.Author.Tests.{ne-eqb}
 use Rattle.lists.specs.Tests.{if_then_else_, _<?_}
@@ -15,6 +18,7 @@ use Rattle.rules.specs.declared.Kind.{Kind}
 use Rattle.rules.specs.declared.Kind.the-variants.{Event, Issuer, Reserved, Unsupported}
 use Rattle.rules.specs.Events.{kindOf, kindOfCode, values, codes, equal?, named, minus, firstDownload, notSupported, notToSet}
 use Rattle.rules.specs.Refusals.{line, lowest}
+use Rattle.events.specs.Place.{placeOf}
 
 -- the refusal of a kind, as `refusal_of` gives it
 abbrev pub refusalOf : Kind → ℕ
@@ -70,6 +74,20 @@ value-event v e h = (rw h at (value-place v)) .1
 
 pub code-event : (c e : ℕ) → kindOfCode c ≡ Event e → (5 ≤ e) × (e < 18)
 code-event c e h = rw h at (code-place c)
+
+within : (k : Kind) → Among 0 20 k → placeOf k < 20
+unfolding placeOf
+within (Event e) h = h .1
+within Issuer h = omega arith
+within Reserved h = omega arith
+within Unsupported h = omega arith
+
+pub place-within : (v : ℤ) {k : Kind} {p : ℕ} → k ≡ kindOf v → p ≡ placeOf k → p < 20
+place-within v h e = rw (e, h) (within (kindOf v) (value-place v))
+
+-- a signed value is what its bits are read as
+pub kind-of-value : (v : ℤ) {k : Kind} → SFits w16 v → k ≡ kindOf (toZ w16 (ofZ w16 v)) → k ≡ kindOf v
+kind-of-value v f e = e ∙ ap kindOf (toZ-ofZ w16 v f)
 
 -- the list is ascending
 unfoldable pub ascends? : List ℕ → Bool

@@ -4,6 +4,7 @@ ghost use mathlib.Core.Path.{_≡_};
 ghost use mathlib.Core.List.{[], _∷_};
 ghost use Rattle.rules.specs.Events.{kindOf, kindOfCode, notSupported, notToSet, isControl};
 ghost use Rattle.rules.specs.Refusals.{line, lowest};
+ghost use Rattle.events.specs.Place.{placeOf};
 use rules::Kind;
 
 // What an event value is.
@@ -85,5 +86,17 @@ pub fn is_control(kind: Kind) -> bool
         Kind::Issuer => false,
         Kind::Reserved => false,
         Kind::Unsupported => false,
+    }
+}
+
+// The place of an event; 0 for what is none.
+pub fn place_of(kind: Kind) -> u8
+    ensures { λ r. ⌜ r ≡ placeOf kind ⌝ }
+{
+    match kind {
+        Kind::Event(place) => place,
+        Kind::Issuer => 0,
+        Kind::Reserved => 0,
+        Kind::Unsupported => 0,
     }
 }

@@ -6,7 +6,6 @@ use rules::Request;
 ghost use Prim.Native.Nat.{_≤_, _<_};
 ghost use mathlib.Core.Path.{_≡_};
 ghost use mathlib.Core.Bool.{not, _&&_, _||_};
-ghost use mathlib.Core.List.{[], _∷_, _++_};
 ghost use lib.ListN.{length, drop};
 ghost use Rattle.lists.specs.Tests.{_==_, _<?_};
 ghost use Rattle.lists.specs.Lists.{some?, padded, sum, in?, repeats?};
@@ -16,6 +15,7 @@ ghost use Rattle.rules.specs.Applets.{lookedAt, outOfRange, entries, requested,
 ghost use Rattle.rules.specs.Rows.{noPair};
 ghost use Rattle.rules.specs.Held.{storedApplet, viewApplets, storedApplets, TidyApplets};
 ghost use Rattle.install.specs.Refuses.{RefusesInstall, taken, asksFor};
+ghost use Rattle.install.specs.Joins.{withNewcomer};
 
 // How many pairs are looked at: as many as the entry limit, of the four that there are.
 fn pair_count(request: Request) -> u8
@@ -64,17 +64,20 @@ fn new_applet(number: u8, request: Request) -> Applet
     }
 }
 
-// The applets with a newcomer behind them.
+// The applets with a newcomer behind them; a full table stays as it is.
 pub fn installed(s: Applets, number: u8, request: Request) -> Applets
-    requires { ⌜ TidyApplets s × (s .count < 8) ⌝ }
-    ensures { λ r. ⌜ r ≡ storedApplets (viewApplets s ++ newcomer number request ∷ []) ⌝ }
+    requires { ⌜ TidyApplets s ⌝ }
+    ensures { λ r. ⌜ r ≡ storedApplets (withNewcomer number request (viewApplets s)) ⌝ }
 {
     let n = s.count as usize;
-    let a = new_applet(number, request);
-    let mut r = s;
-    r.at[n] = a;
-    r.count += 1;
-    r
+    if n < Applets::MOST {
+        let a = new_applet(number, request);
+        let mut r = s;
+        r.at[n] = a;
+        r.count += 1;
+        return r;
+    }
+    s
 }
 
 // Whether one of the pairs from an index on requests an identifier.

@@ -1,2 +1,2 @@
--- The walk that the two lent calls share.
+-- The walk that the lent calls share.
 pub mod Walk

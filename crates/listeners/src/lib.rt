@@ -2,7 +2,7 @@
 use rules::Applet;
 use rules::Applets;
 use rules::Kind;
-ghost use Prim.Native.Nat.{ℕ, _<_};
+ghost use Prim.Native.Nat.{ℕ};
 ghost use mathlib.Core.Path.{_≡_};
 ghost use mathlib.Core.Bool.{false, not, _&&_};
 ghost use lib.ListN.{getD};
@@ -15,16 +15,17 @@ ghost use Rattle.listeners.specs.Listens.{listens, otherListens, anyCode
 
 // Whether an applet is registered for an event that is kept applet by applet.
 pub fn is_registered(applet: Applet, event: u8) -> bool
-    requires { ⌜ event < 20 ⌝ }
     ensures { λ r. ⌜ r ≡ getD (applet .events) event false ⌝ }
 {
     let e = event as usize;
-    applet.events[e]
+    if e < Applet::EVENTS {
+        return applet.events[e];
+    }
+    false
 }
 
 // Whether an applet is selectable and registered for an event; `but` leaves out the one that has a number.
 fn is_listener(a: Applet, but: bool, number: u8, event: u8) -> bool
-    requires { ⌜ event < 20 ⌝ }
     ensures { λ r. ⌜ r ≡ (not (but && (a .number == number)) && (a .selectable && getD (a .events) event false)) ⌝ }
 {
     if but {
@@ -40,7 +41,7 @@ fn is_listener(a: Applet, but: bool, number: u8, event: u8) -> bool
 
 // Whether some applet does, with the same exception.
 fn some_listen(s: Applets, but: bool, number: u8, event: u8) -> bool
-    requires { ⌜ TidyApplets s × (event < 20) ⌝ }
+    requires { ⌜ TidyApplets s ⌝ }
     ensures { λ r. ⌜ r ≡ some? (λ (x : holds.Applet). not (but && hasNumber number x) && listens event x) (viewApplets s) ⌝ }
 {
     let n = s.count as usize;
@@ -58,7 +59,7 @@ fn some_listen(s: Applets, but: bool, number: u8, event: u8) -> bool
 
 // Whether a selectable applet is registered for an event other than call control.
 pub fn listened(s: Applets, event: u8) -> bool
-    requires { ⌜ TidyApplets s × (event < 20) ⌝ }
+    requires { ⌜ TidyApplets s ⌝ }
     ensures { λ r. ⌜ r ≡ some? (listens event) (viewApplets s) ⌝ }
 {
     some_listen(s, false, 0, event)
@@ -66,7 +67,7 @@ pub fn listened(s: Applets, event: u8) -> bool
 
 // Whether a selectable applet with another number is.
 pub fn others_listen(s: Applets, number: u8, event: u8) -> bool
-    requires { ⌜ TidyApplets s × (event < 20) ⌝ }
+    requires { ⌜ TidyApplets s ⌝ }
     ensures { λ r. ⌜ r ≡ some? (otherListens number event) (viewApplets s) ⌝ }
 {
     some_listen(s, true, number, event)
@@ -89,7 +90,7 @@ pub fn has_code(applet: Applet) -> bool
 
 // Whether an applet is registered for an event that no selectable applet with another number is registered for.
 pub fn is_alone(s: Applets, applet: Applet, event: u8) -> bool
-    requires { ⌜ TidyApplets s × (event < 20) ⌝ }
+    requires { ⌜ TidyApplets s ⌝ }
     ensures { λ r. ⌜ r ≡ alone (applet .events) (applet .number) (viewApplets s) event ⌝ }
 {
     let is = is_registered(applet, event);

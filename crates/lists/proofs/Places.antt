@@ -1,13 +1,19 @@
--- Laws of places: what stands at one after another was set, or cleared.
+-- Laws of places: what stands at one after another was set, or cleared; to set one past the end changes nothing.
 -- Assumes nothing.
-use Prim.Native.Nat.{ℕ, zero, suc, _<_}
-use mathlib.Core.Path.{_≡_, refl, sym}
+use Prim.Native.Nat.{ℕ, zero, suc, _≤_, _<_}
+use native.Mathlib.Nat.{not-suc-le-zero, le-of-suc-le-suc}
+use mathlib.Core.Path.{_≡_, refl, sym, ap}
 use mathlib.Core.Bool.{Bool, true, false}
 use mathlib.Core.List.{List, [], _∷_}
 use lib.ListN.{length, getD, set, replicate}
 use lib.Seq.{getD-set-same, getD-set-other}
 use borrow.Author.Tests.{eqb-true, eqb-false}
 use Rattle.lists.specs.Tests.{if_then_else_, _==_}
+
+pub set-past : {A : Type 0} (l : List A) (i : ℕ) (x : A) → length l ≤ i → set l i x ≡ l
+set-past [] i x h = refl
+set-past (y ∷ l) zero x h = absurd (not-suc-le-zero h)
+set-past {A} (y ∷ l) (suc i) x h = ap (λ (k : List A). y ∷ k) (set-past l i x (le-of-suc-le-suc h))
 
 module _ {A : Type 0} (d : A) where
   pub getD-set : (l : List A) (i j : ℕ) (x : A) → i < length l → getD (set l i x) j d ≡ (if i == j then x else getD l j d)

@@ -5,8 +5,9 @@ use native.Mathlib.Omega.{arith}
 use native.Mathlib.Numerals.{add-one}
 use mathlib.Core.Path.{_≡_, refl, sym, ap, _∙_}
 use mathlib.Core.List.{List, [], _∷_, _++_, append-assoc}
-use lib.ListN.{length, take, drop, getD, length-append, take-append-drop, set, length-set}
+use lib.ListN.{length, take, drop, getD, replicate, length-append, take-append-drop, set, length-set}
 use lib.Seq.{length-take-le, take-at, drop-at, paste, take-length, drop-drop, paste-zero, paste-suc}
+use Rattle.lists.specs.Lists.{padded}
 use Rattle.lists.specs.Wrote.{putAt, Wrote}
 
 module _ (b : List ℕ) (at : ℕ) (s : List ℕ) (fits : at + length s ≤ length b) where
@@ -74,3 +75,15 @@ wrote-as e w = rw e at w
 
 pub wrote-of : {A : Type 0} (f : A → List ℕ) {b : List ℕ} {at : ℕ} {c : List ℕ} {n : ℕ} {x y : A} → x ≡ y → Wrote b at (f y) c n → Wrote b at (f x) c n
 wrote-of f e w = rw e w
+
+-- what was written at the front of blanks has blanks behind
+drop-blanks : (n k z : ℕ) → drop k (replicate n z) ≡ replicate (n - k) z
+drop-blanks n zero z = let e : n ≡ n - 0 = omega arith in ap (λ k. replicate k z) e
+drop-blanks zero (suc k) z = let e : 0 ≡ 0 - suc k = omega arith in ap (λ n. replicate n z) e
+drop-blanks (suc n) (suc k) z = let e : n - k ≡ suc n - suc k = omega arith in drop-blanks n k z ∙ ap (λ n. replicate n z) e
+
+pub wrote-padded : (cap z : ℕ) {s c : List ℕ} {n : ℕ} → Wrote (replicate cap z) 0 s c n → c ≡ padded cap z s
+unfolding putAt padded
+wrote-padded cap z {s} w =
+    let e : 0 + length s ≡ length s = omega arith in
+    w .after ∙ ap (λ n. s ++ drop n (replicate cap z)) e ∙ ap (λ l. s ++ l) (drop-blanks cap (length s) z)

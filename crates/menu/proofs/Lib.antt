@@ -1,5 +1,3 @@
--- The laws of the menu list, and its promises.
+-- The laws of the menu list.
 pub mod Tidy
 pub mod Searches
-pub mod Free
-pub mod Promise

@@ -6,7 +6,7 @@ use mathlib.Core.Path.{_≡_, refl, sym, ap, _∙_}
 use mathlib.Core.Bool.{Bool, true, false, not}
 use mathlib.Core.List.{List, map}
 use lib.ListN.{length, take, set, length-take}
-use borrow.Author.Tests.{ltb-false}
+use borrow.Author.Tests.{ltb-false, lt-ltb, le-ltb}
 use Rattle.lists.specs.Tests.{if_then_else_, _==_, _<?_}
 use Rattle.lists.specs.Lists.{padded, indexOf, keep, some?, insertAt, change}
 use Rattle.lists.proofs.Padded.{length-padded, take-padded, Open, open-start, open-put, length-insertAt}
@@ -19,7 +19,7 @@ use Rattle.rules.specs.Holds.{Row}
 use Rattle.rules.specs.Rows.{hasIdentifier, place, withoutRows, withText, withEnabled}
 use Rattle.rules.specs.Held.{viewRow, storedRow, noRow, viewRows, storedRows, TidyRows}
 use Rattle.rules.proofs.Held.{rows-back}
-use Rattle.menu.specs.Table.{TidyRow}
+use Rattle.menu.specs.Table.{withRow, TidyRow}
 
 abbrev pub blank : held.Row
 blank = storedRow noRow
@@ -109,6 +109,14 @@ puts s p k at x t u e o =
     let a : insertAt k x (map storedRow l) ≡ map storedRow (insertAt k (viewRow x) l) = ap (λ (y : held.Row). insertAt k y (map storedRow l)) (u .form) ∙ sym (map-insertAt storedRow k (viewRow x) l) in
     stands (insertAt k (viewRow x) l) (open-put 12 blank (map storedRow l) k at x g o ∙ ap (padded 12 blank) a) (omega (arith, count-is s t, length-insertAt k (viewRow x) l h))
     ∙ ap (λ (n : ℕ). storedRows (insertAt n (viewRow x) l)) f
+
+pub inserted-room : (p : ℕ) (x : Row) (l : List Row) → length l < 12 → withRow p x l ≡ insertAt (place p (length l)) x l
+unfolding withRow
+inserted-room p x l h = rw (lt-ltb (length l) 12 h) refl
+
+pub inserted-full : (p : ℕ) (x : Row) (l : List Row) → 12 ≤ length l → withRow p x l ≡ l
+unfolding withRow
+inserted-full p x l h = rw (le-ltb (length l) 12 h) refl
 
 -- A deletion: what is kept of the array is what is kept of the rows.
 abbrev pub notOf : (owner : ℕ) → held.Row → Bool

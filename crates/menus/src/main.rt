@@ -1,5 +1,7 @@
-// Menus that a card hands out, read back; and the same commands damaged.
-// A line for each: the command's length and what the reader says of it, or how many of the damaged ones it refuses.
+// Menus that a card hands out, and items written by hand, read back: a line for each with the refusal, the title, the help mark and the items.
+// Below a handed-out menu stands, for each kind of damage, how many commands so damaged the reader refuses.
+mod damage;
+
 use card::Card;
 use libc::STDOUT_FILENO;
 use rules::Given;
@@ -142,45 +144,22 @@ fn handed(card: Card, out: &mut [u8]) -> usize
     }
 }
 
-fn refused(s: &[u8]) -> u8 {
-    let menu = reader::read_menu(s);
-    menu.refusal
-}
-
-// How many of the commands with one byte changed the reader refuses.
-fn damaged(s: &mut [u8], by: u8) -> u64 {
-    let n = s.len();
-    let mut count: u64 = 0;
-    let mut i: usize = 0;
-    while i < n {
-        let old = s[i];
-        s[i] = old ^ by;
-        count = std::num::wrapping_add_u64(count, wide(refused(s)));
-        s[i] = old;
-        i += 1;
-    }
-    count
-}
-
-// The command as it is, with one byte less, with one byte more, and with each byte changed by its lowest bit and by its highest.
+// The command as it is, and damaged.
 fn tell(out: &mut [u8], n: usize)
     requires { ⌜ (n ≤ 255) × (256 ≤ length (now out)) ⌝ }
 {
-    io::print_hex(STDOUT_FILENO, n as u64, 2);
-    put(b" ");
+    put(b"menu of ");
+    io::print_decimal(STDOUT_FILENO, n as u64);
+    put(b" bytes: ");
     say(&out[..n]);
     if n == 0 {
         return;
     }
     let less = n - 1;
     let more = n + 1;
-    put_byte(refused(&out[..less]));
-    put_byte(refused(&out[..more]));
-    put(b" ");
-    io::print_hex(STDOUT_FILENO, damaged(&mut out[..n], 1), 2);
-    put(b" ");
-    io::print_hex(STDOUT_FILENO, damaged(&mut out[..n], 0x80), 2);
-    put(b"\n");
+    damage::told(b"a byte less", damage::whole(&out[..less]));
+    damage::told(b"a byte behind", damage::behind(&mut out[..more], n));
+    damage::tell_kinds(&mut out[..n]);
 }
 
 // A menu of so many rows.
@@ -200,6 +179,65 @@ fn try_none(title: &[u8]) {
     tell(&mut out, n);
 }
 
+// A menu written by hand.
+fn try_written(name: &[u8], command: &[u8]) {
+    put(name);
+    put(b": ");
+    say(command);
+}
+
+// Written by hand: two menus that a card can write, and items that no menu has.
+fn try_items() {
+    try_written(
+        b"no items",
+        b"\xD0\x0D\x81\x03\x01\x25\x00\x82\x02\x81\x82\x85\x00\x8F\x00",
+    );
+    try_written(
+        b"equal titles",
+        b"\xD0\x13\x81\x03\x01\x25\x00\x82\x02\x81\x82\x85\x00\x8F\x02\x01a\x8F\x02\x02a",
+    );
+    try_written(
+        b"identifier twice",
+        b"\xD0\x13\x81\x03\x01\x25\x00\x82\x02\x81\x82\x85\x00\x8F\x02\x01a\x8F\x02\x01b",
+    );
+}
+
+// Items with no bytes, or with no text.
+fn try_empty_items() {
+    try_written(
+        b"item with length 0 behind an item",
+        b"\xD0\x11\x81\x03\x01\x25\x00\x82\x02\x81\x82\x85\x00\x8F\x02\x01a\x8F\x00",
+    );
+    try_written(
+        b"item with length 0 before an item",
+        b"\xD0\x11\x81\x03\x01\x25\x00\x82\x02\x81\x82\x85\x00\x8F\x00\x8F\x02\x01a",
+    );
+    try_written(
+        b"two items with length 0",
+        b"\xD0\x0F\x81\x03\x01\x25\x00\x82\x02\x81\x82\x85\x00\x8F\x00\x8F\x00",
+    );
+    try_written(
+        b"item with no text",
+        b"\xD0\x0E\x81\x03\x01\x25\x00\x82\x02\x81\x82\x85\x00\x8F\x01\x01",
+    );
+    try_written(
+        b"item with no text behind an item",
+        b"\xD0\x12\x81\x03\x01\x25\x00\x82\x02\x81\x82\x85\x00\x8F\x02\x01a\x8F\x01\x02",
+    );
+    try_written(
+        b"item with identifier 0",
+        b"\xD0\x0F\x81\x03\x01\x25\x00\x82\x02\x81\x82\x85\x00\x8F\x02\x00a",
+    );
+    try_written(
+        b"no item element",
+        b"\xD0\x0B\x81\x03\x01\x25\x00\x82\x02\x81\x82\x85\x00",
+    );
+    try_written(
+        b"no items, with help",
+        b"\xD0\x0D\x81\x03\x01\x25\x80\x82\x02\x81\x82\x85\x00\x8F\x00",
+    );
+}
+
 fn main() {
     let title = *b"ABCDEFGHIJKLMNOPQRST";
     let text = *b"abcdefghijklmno";
@@ -211,4 +249,6 @@ fn main() {
     try_menu(&title[..9], 6, &text[..15]);
     try_none(&title[..1]);
     try_none(&title[..15]);
+    try_items();
+    try_empty_items();
 }

@@ -42,7 +42,7 @@ pub fn byte_at(s: &[u8], at: usize) -> u8
 }
 
 // The signed number that two bytes give.
-fn signed_of(high: u8, low: u8) -> i16
+pub fn signed_of(high: u8, low: u8) -> i16
     ensures { λ r. ⌜ r ≡ signed high low ⌝ }
 {
     let n: u16 = (high as u16) * 256 + (low as u16);
@@ -54,7 +54,7 @@ fn signed_of(high: u8, low: u8) -> i16
 }
 
 // The event value that arguments start with, high byte first.
-fn value_of(arguments: &[u8]) -> i16
+pub fn value_of(arguments: &[u8]) -> i16
     ensures { λ r. ⌜ r ≡ signed (byte (now (arguments .entry)) 0) (byte (now (arguments .entry)) 1) ⌝ }
 {
     signed_of(byte_at(arguments, 0), byte_at(arguments, 1))

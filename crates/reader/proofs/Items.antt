@@ -25,8 +25,8 @@ use Rattle.rules.specs.Commands.{Item, properItem, readItems}
 use Rattle.rules.specs.Held.{viewRow, storedRow, viewRows, storedRows, TidyRows}
 use Rattle.rules.proofs.Held.{rows-back}
 use Rattle.command.specs.Fits.{Short}
-use Rattle.menu.specs.Table.{newRow}
-use Rattle.menu.proofs.Tidy.{row-back, tidy-stored}
+use Rattle.menu.specs.Table.{newRow, withRow}
+use Rattle.menu.proofs.Tidy.{row-back, tidy-stored, inserted-room}
 use Rattle.reader.specs.Reads.{proper, rowFor, identifiers, itemsAt, mayStay, ItemsRead}
 use Rattle.reader.proofs.Lists.{drop-taken, each-more, each-less, fresh-more, twice}
 
@@ -109,10 +109,6 @@ module _ {s : List ℕ} {at : ℕ} {help : Bool} {rows : Rows} {next k : ℕ} (c
   pub come-tidy : TidyRows rows
   come-tidy = rw (c .form) (tidy-stored (map (rowFor help) (c .done)) (omega (arith, size, c .few)))
 
-  pub come-count : rows .count ≡ k
-  unfolding storedRows
-  come-count = ap (λ (r : Rows). r .count) (c .form) ∙ size
-
   -- it ends here
   come-all : readItems (12 - k) (drop next s) ≡ [] → itemsAt s at ≡ c .done
   come-all e = sym (c .left) ∙ ap (λ (l : List Item). c .done ++ l) e ∙ append-nil (c .done)
@@ -178,13 +174,13 @@ module _ {s : List ℕ} {at : ℕ} {help : Bool} {rows : Rows} {next k : ℕ} (c
     pub come-more
         : proper i len ≡ true → next + 3 + len ≤ length s → {f : ℕ} → f ≡ indexOf (hasIdentifier i) (viewRows rows) → k ≤ f
         → {row : held.Row} {text : List ℕ} → row ≡ storedRow (newRow i 0 help text) → text ≡ take len (drop (next + 3) s)
-        → {after : Rows} → after ≡ storedRows (insertAt (place 0 (length (viewRows rows))) (viewRow row) (viewRows rows))
+        → {after : Rows} → after ≡ storedRows (withRow 0 (viewRow row) (viewRows rows))
         → Come s at help after (next + 3 + len) (k + 1)
     come-more p w ef h {row} {text} er et ea =
         record {
           done = c .done ++ (itemAt s next n i ∷ []);
           left = append-assoc (c .done) (itemAt s next n i ∷ []) _ ∙ all-of;
-          form = ea ∙ ap storedRows grown;
+          form = ea ∙ ap storedRows (inserted-room 0 (viewRow row) (viewRows rows) (omega (arith, size, ap length viewed)) ∙ grown);
           many = omega (arith, length-append (c .done) (itemAt s next n i ∷ []), c .many);
           few = omega arith;
           within = w;

@@ -6,6 +6,7 @@ use mathlib.Core.Path.{_≡_, refl, sym, ap, _∙_}
 use mathlib.Core.Bool.{Bool, true, false, _&&_, _||_}
 use mathlib.Core.List.{List, [], _∷_, _++_}
 use lib.ListN.{length, take, drop, length-take}
+use lib.Seq.{take-all}
 use Rattle.lists.specs.Tests.{_==_}
 use Rattle.lists.specs.Lists.{every?, some?, in?, repeats?}
 use Rattle.lists.proofs.Truth.{or-false, or-true}
@@ -13,9 +14,14 @@ use Rattle.lists.proofs.Decided.{turned}
 use Rattle.lists.proofs.Decided.{neither, clashing}
 use Rattle.lists.proofs.Firsts.{some-append}
 
--- a part from a to a + n is no longer than n
+-- a part from a to a + n is no longer than n, and is held whole where it fits
 pub part-most : (a n most : ℕ) (l : List ℕ) → n ≤ most → length (take (a + n - a) l) ≤ most
 part-most a n most l h = omega (arith, length-take (a + n - a) l)
+
+pub part-held : (a n most : ℕ) (l : List ℕ) → n ≤ most → take most (take (a + n - a) l) ≡ take n l
+part-held a n most l h =
+    let e : a + n - a ≡ n = omega arith in
+    take-all most (take (a + n - a) l) (part-most a n most l h) ∙ ap (λ (k : ℕ). take k l) e
 
 module _ {A : Type 0} where
   -- what is not there is not passed over

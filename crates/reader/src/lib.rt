@@ -61,20 +61,6 @@ fn value_at(s: &[u8]) -> usize
     2
 }
 
-// A title as the answer holds it.
-fn held_title(title: &[u8]) -> [u8; Desk::TITLE]
-    requires { ⌜ length (now title) ≤ 20 ⌝ }
-    ensures { λ r. ⌜ r ≡ padded 20 0 (now (title .entry)) ⌝ }
-{
-    let mut bytes = [0; Desk::TITLE];
-    let mut i = 0;
-    while i < title.len() {
-        bytes[i] = title[i];
-        i += 1;
-    }
-    bytes
-}
-
 // An item may have this identifier and a text of this length.
 fn is_proper(identifier: u8, len: usize) -> bool
     ensures { λ r. ⌜ r ≡ proper identifier len ⌝ }
@@ -111,7 +97,7 @@ fn read_rows(bytes: &[u8], at: usize, help: bool) -> Parsed
             return Parsed { ok: false, rows };
         }
         let end = from + len;
-        let row = menu::row_of(identifier, 0, help, &bytes[from..end]);
+        let row = rows::row_of(identifier, 0, help, &bytes[from..end]);
         rows = menu::inserted(rows, 0, row);
         next = end;
         k += 1;
@@ -215,7 +201,7 @@ pub fn read_menu(bytes: &[u8]) -> Menu
     if !is_written(bytes, &bytes[start..end], rows) {
         return none;
     }
-    let title = held_title(&bytes[start..end]);
+    let title = writing::held_title(&bytes[start..end]);
     let at = items_of(rows);
     Menu {
         refusal: 0,

@@ -1,9 +1,12 @@
-// Reads lines `name: e bytes` (an envelope), `name: c bytes` (a command) or `name: f tag occurrence run` (a search, two bytes
-// each in front of the run), all bytes in upper hexadecimal, and writes behind each name what the readers make of them.
+// Reads lines `name: letter bytes` in upper hexadecimal and writes behind each name what the readers make of the bytes: e envelope, c command,
+// o outer element, f search (tag and occurrence, two bytes each, and the run), v event value (two bytes), d download code.
 use libc::STDIN_FILENO;
 use libc::STDOUT_FILENO;
 use rules::Command;
 use rules::Envelope;
+use rules::Found;
+use rules::Kind;
+use rules::Outer;
 ghost use Prim.Native.Nat.{_≤_};
 ghost use lib.ListN.{length};
 
@@ -66,6 +69,10 @@ fn put_byte(b: u8) {
     io::print_hex(STDOUT_FILENO, wide(b), 2);
 }
 
+fn put_place(n: usize) {
+    io::print_hex(STDOUT_FILENO, n as u64, 4);
+}
+
 // Writes bytes, or a dash for none.
 fn put_bytes(s: &[u8]) {
     if s.len() == 0 {
@@ -101,6 +108,11 @@ fn say_envelope(s: &[u8]) {
         Envelope::Unrecognized => put(b"unrecognized"),
         Envelope::Malformed => put(b"malformed"),
     }
+    if envelopes::is_bad(e) {
+        put(b", refused");
+    } else {
+        put(b", taken");
+    }
     put(b", content ");
     put_bytes(envelopes::content(s));
 }
@@ -120,6 +132,19 @@ fn say_command(s: &[u8]) {
     }
 }
 
+fn say_outer(s: &[u8]) {
+    let o = tlv::outer(s);
+    match o {
+        Outer::Tlv { tag, start } => {
+            put(b"tag ");
+            put_byte(tag);
+            put(b", value at ");
+            put_place(start);
+        }
+        Outer::Malformed => put(b"malformed"),
+    }
+}
+
 fn say_search(s: &[u8], tag: u16, occurrence: usize) {
     if tlv::has(s, tag, occurrence) {
         put(b"yes ");
@@ -127,10 +152,78 @@ fn say_search(s: &[u8], tag: u16, occurrence: usize) {
         put(b"no ");
     }
     put_bytes(tlv::find(s, tag, occurrence));
+    let f = tlv::locate(s, tag, occurrence);
+    match f {
+        Found::At(value) => {
+            put(b", at ");
+            put_place(value.start);
+            put(b" length ");
+            put_place(value.len);
+        }
+        Found::Nothing => put(b", nothing"),
+    }
+}
+
+// The name that document 01 gives the event at a place.
+fn put_event(place: u8) {
+    match place {
+        Kind::PROFILE_DOWNLOAD => put(b"profile download"),
+        Kind::MENU_SELECTION => put(b"menu selection"),
+        Kind::HELP_REQUEST => put(b"menu selection help request"),
+        Kind::CALL_CONTROL => put(b"call control"),
+        Kind::TIMER_EXPIRATION => put(b"timer expiration"),
+        Kind::MT_CALL => put(b"MT call"),
+        Kind::CALL_CONNECTED => put(b"call connected"),
+        Kind::CALL_DISCONNECTED => put(b"call disconnected"),
+        Kind::LOCATION_STATUS => put(b"location status"),
+        Kind::USER_ACTIVITY => put(b"user activity"),
+        Kind::IDLE_SCREEN => put(b"idle screen"),
+        Kind::CARD_READER_STATUS => put(b"card reader status"),
+        Kind::LANGUAGE_SELECTION => put(b"language selection"),
+        Kind::BROWSER_TERMINATION => put(b"browser termination"),
+        Kind::ACCESS_TECHNOLOGY => put(b"access technology (single)"),
+        Kind::DISPLAY_PARAMETERS => put(b"display parameters"),
+        Kind::NETWORK_SEARCH_MODE => put(b"network search mode"),
+        Kind::BROWSING_STATUS => put(b"browsing status"),
+        Kind::UNRECOGNIZED_ENVELOPE => put(b"unrecognized envelope"),
+        Kind::HANDLER_AVAILABLE => put(b"proactive handler available"),
+        _ => put(b"no event"),
+    }
+}
+
+// The kind, the refusal that set event gives for it, and whether call control's owner is asked for.
+fn say_kind(kind: Kind) {
+    match kind {
+        Kind::Event(place) => put_event(place),
+        Kind::Issuer => put(b"issuer"),
+        Kind::Reserved => put(b"reserved"),
+        Kind::Unsupported => put(b"unsupported"),
+    }
+    put(b", refusal ");
+    put_byte(events::refusal_of(kind));
+    if events::is_control(kind) {
+        put(b", one owner");
+    }
 }
 
 fn number(high: u8, low: u8) -> u16 {
     (high as u16) * 256 + (low as u16)
+}
+
+fn say_numbered(letter: u8, s: &[u8]) {
+    if letter == b'd' {
+        if 1 <= s.len() {
+            say_kind(events::kind_of_code(s[0]));
+        }
+    } else if letter == b'v' {
+        if 2 <= s.len() {
+            say_kind(events::kind_of(orders::signed_of(s[0], s[1])));
+        }
+    } else if 4 <= s.len() {
+        let tag = number(s[0], s[1]);
+        let occurrence = number(s[2], s[3]) as usize;
+        say_search(&s[4..], tag, occurrence);
+    }
 }
 
 fn say(letter: u8, s: &[u8]) {
@@ -138,10 +231,10 @@ fn say(letter: u8, s: &[u8]) {
         say_envelope(s);
     } else if letter == b'c' {
         say_command(s);
-    } else if 4 <= s.len() {
-        let tag = number(s[0], s[1]);
-        let occurrence = number(s[2], s[3]) as usize;
-        say_search(&s[4..], tag, occurrence);
+    } else if letter == b'o' {
+        say_outer(s);
+    } else {
+        say_numbered(letter, s);
     }
 }
 

@@ -11,17 +11,18 @@ use lib.Seq.{take-all}
 use borrow.Author.Tests.{lt-ltb, le-ltb}
 use Rattle.lists.specs.Lists.{padded, indexOf, first, change, some?, keep}
 use Rattle.lists.proofs.Padded.{length-padded, get-padded, take-padded, getD-any, set-padded, copy-more}
-use Rattle.lists.proofs.Search.{some-is, first-is, first-none, change-is, change-none, length-change}
+use Rattle.lists.proofs.Search.{some-is, first-is, first-none, change-is, change-none, change-same, length-change}
 use Rattle.lists.proofs.Mapped.{map-length, map-set, map-keep}
 use Rattle.lists.proofs.Walk.{some-pass, some-here, some-end}
 use Rattle.rules.specs.declared.Applet as held
 use Rattle.rules.specs.declared.Applets.{Applets}
-use Rattle.rules.specs.Holds.{Applet, Tables}
+use Rattle.rules.specs.Holds.{Applet, Tables, withOneMore}
 use Rattle.rules.specs.Applets.{hasNumber, nobody, present, applet}
 use Rattle.rules.specs.Held.{storedApplet, viewApplets, storedApplets, TidyApplets}
 use Rattle.rules.proofs.Held.{applets-back}
 use Rattle.registry.specs.declared.Looked.{Looked}
 use Rattle.registry.specs.Looks.{lookedUp}
+use Rattle.registry.specs.Counts.{countedOn}
 
 -- a stored table is in its one form
 pub tidy-stored : (l : List Applet) → length l ≤ 8 → TidyApplets (storedApplets l)
@@ -190,3 +191,8 @@ module _ (t : Tables) (n : ℕ) (x : Looked) (is : x ≡ lookedUp n (t .applets)
   pub applet-is : x .applet ≡ storedApplet (applet t n)
   unfolding applet
   applet-is = ap (λ (y : Looked). y .applet) is
+
+-- below 255 one entry more counts
+pub counted : (n : ℕ) (l : List Applet) → first (hasNumber n) nobody l .made < 255 → change (hasNumber n) countedOn l ≡ change (hasNumber n) withOneMore l
+unfolding countedOn
+counted n l h = change-same (hasNumber n) countedOn withOneMore l nobody (rw (lt-ltb (first (hasNumber n) nobody l .made) 255 h) refl)

@@ -1,2 +1,3 @@
--- What the look-up gives.
+-- What the look-up gives, and how entries made are counted.
 pub mod Looks
+pub mod Counts

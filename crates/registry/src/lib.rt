@@ -2,16 +2,17 @@
 use rules::Applet;
 use rules::Applets;
 use rules::Pair;
-ghost use Prim.Native.Nat.{ℕ, _<_};
+ghost use Prim.Native.Nat.{ℕ};
 ghost use mathlib.Core.Path.{_≡_};
 ghost use mathlib.Core.Bool.{not};
 ghost use mathlib.Core.List.{[], map};
 ghost use Rattle.lists.specs.Lists.{indexOf, first, keep, change};
 ghost use Rattle.rules.specs.Holds as holds;
-ghost use Rattle.rules.specs.Holds.{withSelectable, withEvent, withOneMore};
+ghost use Rattle.rules.specs.Holds.{withSelectable, withEvent};
 ghost use Rattle.rules.specs.Applets.{hasNumber, nobody, usedUp};
 ghost use Rattle.rules.specs.Held.{storedApplet, viewApplets, storedApplets, TidyApplets};
 ghost use Rattle.registry.specs.Looks.{lookedUp};
+ghost use Rattle.registry.specs.Counts.{countedOn};
 
 // An applet by its number: whether it is there, where it stands, and what it is.
 pub struct Looked {
@@ -115,26 +116,48 @@ pub fn locked(s: Applets, number: u8, on: bool) -> Applets
     with(s, looked, a)
 }
 
+// An applet registered for an event, or no longer; a place past the last event's changes nothing.
+fn with_event(a: Applet, event: u8, on: bool) -> Applet
+    ensures { λ r. ⌜ ((x : holds.Applet) → a ≡ storedApplet x → r ≡ storedApplet (withEvent event on x)) ⌝ }
+{
+    let e = event as usize;
+    if e < Applet::EVENTS {
+        let mut r = a;
+        r.events[e] = on;
+        return r;
+    }
+    a
+}
+
 // The applet with a number registered for an event, or no longer.
 pub fn registered(s: Applets, number: u8, event: u8, on: bool) -> Applets
-    requires { ⌜ TidyApplets s × (event < 20) ⌝ }
+    requires { ⌜ TidyApplets s ⌝ }
     ensures { λ r. ⌜ r ≡ storedApplets (change (hasNumber number) (withEvent event on) (viewApplets s)) ⌝ }
 {
     let looked = look(s, number);
-    let e = event as usize;
-    let mut a = looked.applet;
-    a.events[e] = on;
+    let a = with_event(looked.applet, event, on);
     with(s, looked, a)
+}
+
+// An applet with one entry more made; a count of 255 stays.
+fn with_one_more(a: Applet) -> Applet
+    ensures { λ r. ⌜ ((x : holds.Applet) → a ≡ storedApplet x → r ≡ storedApplet (countedOn x)) ⌝ }
+{
+    if a.made < 255 {
+        let mut r = a;
+        r.made += 1;
+        return r;
+    }
+    a
 }
 
 // The applet with a number with one entry more made.
 pub fn one_more(s: Applets, number: u8) -> Applets
-    requires { ⌜ TidyApplets s × (first (hasNumber number) nobody (viewApplets s) .made < 255) ⌝ }
-    ensures { λ r. ⌜ r ≡ storedApplets (change (hasNumber number) withOneMore (viewApplets s)) ⌝ }
+    requires { ⌜ TidyApplets s ⌝ }
+    ensures { λ r. ⌜ r ≡ storedApplets (change (hasNumber number) countedOn (viewApplets s)) ⌝ }
 {
     let looked = look(s, number);
-    let mut a = looked.applet;
-    a.made += 1;
+    let a = with_one_more(looked.applet);
     with(s, looked, a)
 }
 

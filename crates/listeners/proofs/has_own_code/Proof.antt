@@ -19,7 +19,7 @@ loop-holds : tie.Need-loop-holds Inv-loop μ-loop
 loop-holds c = trying-none _
 
 is-alone-requires : tie.Need-is-alone-requires Inv-loop μ-loop
-is-alone-requires c κs = (c .before .before .pre, search needs)
+is-alone-requires c κs = c .before .before .pre
 
 returns : tie.Need-returns Inv-loop μ-loop
 returns c = trying-hit _ _ (search needs) (sym (c .before .is-alone .ensures) ∙ c .if1 .taken) (c .before .before .before .loop .inv)

@@ -34,7 +34,7 @@ unfolding storedApplet
 seen c =
     let b = c .before .before .before in
     let a = b .before .args in
-    sym (ap (λ (x : held.Applet). not (a .but && (x .number == a .number)) && (x .selectable && getD (x .events) (a .event) false)) (read-at _ (b .before .pre .0) (b .loop .i) _ (search needs)))
+    sym (ap (λ (x : held.Applet). not (a .but && (x .number == a .number)) && (x .selectable && getD (x .events) (a .event) false)) (read-at _ (b .before .pre) (b .loop .i) _ (search needs)))
     ∙ sym (c .is-listener .ensures)
 
 cast-n : tie.Need-cast-n Inv-loop μ-loop
@@ -55,7 +55,7 @@ is-listener-requires c κs = search needs
 returns : tie.Need-returns Inv-loop μ-loop
 returns c =
     let b = c .before .before .before .before in
-    tried-hit _ (b .before .pre .0) _ (b .loop .i) (search needs) (seen (c .before) ∙ c .if1 .taken) (b .loop .inv)
+    tried-hit _ (b .before .pre) _ (b .loop .i) (search needs) (seen (c .before) ∙ c .if1 .taken) (b .loop .inv)
 
 add-i : tie.Need-add-i Inv-loop μ-loop
 add-i c = search needs
@@ -66,12 +66,12 @@ loop-less c = search needs
 loop-again : tie.Need-loop-again Inv-loop μ-loop
 loop-again c =
     let b = c .before .before .before .before in
-    tried-more _ (b .before .pre .0) _ (b .loop .i) (search needs) (seen (c .before) ∙ c .if1 .left) (b .loop .inv)
+    tried-more _ (b .before .pre) _ (b .loop .i) (search needs) (seen (c .before) ∙ c .if1 .left) (b .loop .inv)
 
 returns-2 : tie.Need-returns-2 Inv-loop μ-loop
 returns-2 c =
     let b = c .before in
-    tried-all _ (b .before .pre .0) _ (b .loop .i) (search needs) (b .loop .inv)
+    tried-all _ (b .before .pre) _ (b .loop .i) (search needs) (b .loop .inv)
 
 pub some-listen-spec : {M : Type 1} → statement M
 some-listen-spec =

@@ -4,7 +4,9 @@ use mathlib.Core.Path.{_≡_, refl, sym, ap, _∙_, subst}
 use native.Mathlib.Omega.{arith}
 use denote.Ref.{now}
 use lib.ListN.{take, drop}
+use lib.Seq.{take-all}
 use borrow.Author.Tests.{not-true, not-false}
+use Rattle.lists.specs.Lists.{padded}
 use Rattle.rules.specs.Held.{storedMenu}
 use Rattle.command.specs.Fits.{Fits}
 use Rattle.reader.proofs.Lists.{part-most}
@@ -161,14 +163,7 @@ part-held-title-end c =
     ends s (va .value-at .ensures) (b1 .byte-at .ensures) refl (b2 .byte-at2 .ensures) (p1 .part-len .ensures) (p2 .part-len2 .ensures)
 
 held-title-requires : tie.Need-held-title-requires
-held-title-requires c κs =
-    let p2 = c .before .before .before .before .before .before .before .before .before .before .before in
-    let p1 = p2 .before in
-    let b2 = p1 .before in
-    let b1 = b2 .before in
-    let va = b1 .before in
-    let s = now (va .before .before .before .args .bytes) in
-    part-most (p1 .part-len .result) (p2 .part-len2 .result) 20 (drop (p1 .part-len .result) s) (c .before .before .before .before .before .before .before .before .before .before .if1 .left)
+held-title-requires c κs = search needs
 
 items-of-requires : tie.Need-items-of-requires
 items-of-requires c κs =
@@ -200,7 +195,8 @@ returns-5 c =
     let er = rr .rows ok in
     let k : p1 .part-len .result + p2 .part-len2 .result - p1 .part-len .result ≡ p2 .part-len2 .result = omega arith in
     let ti = ap (λ (j : ℕ). take j (drop (p1 .part-len .result) s)) k in
-    is-read s (va .value-at .ensures) (b1 .byte-at .ensures) refl (b2 .byte-at2 .ensures) (p1 .part-len .ensures) (p2 .part-len2 .ensures) er (sym (c .before .before .before .before .before .before .before .help-alone .ensures) ∙ c .before .before .before .before .before .before .if3 .left) ti (c .before .before .before .before .is-written .ensures) (c .before .before .before .before .before .before .before .before .before .before .before .before .if1 .left) (sym (rr .verdict) ∙ ok) (not-false _ (c .before .before .before .if4 .left)) (c .before .held-title .ensures) (c .items-of .ensures)
+    let short = part-most (p1 .part-len .result) (p2 .part-len2 .result) 20 (drop (p1 .part-len .result) s) (c .before .before .before .before .before .before .before .before .before .before .before .before .if1 .left) in
+    is-read s (va .value-at .ensures) (b1 .byte-at .ensures) refl (b2 .byte-at2 .ensures) (p1 .part-len .ensures) (p2 .part-len2 .ensures) er (sym (c .before .before .before .before .before .before .before .help-alone .ensures) ∙ c .before .before .before .before .before .before .if3 .left) ti (c .before .before .before .before .is-written .ensures) (c .before .before .before .before .before .before .before .before .before .before .before .before .if1 .left) (sym (rr .verdict) ∙ ok) (not-false _ (c .before .before .before .if4 .left)) (c .before .held-title .ensures ∙ ap (padded 20 0) (take-all 20 _ short)) (c .items-of .ensures)
 
 pub read-menu-spec : {M : Type 1} → statement M
 read-menu-spec =

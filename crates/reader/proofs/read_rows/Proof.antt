@@ -1,15 +1,15 @@
 -- `read_rows` meets its contract. The invariant: the rows hold the items done, and those that are left stand from `next` on.
 -- Assumes nothing.
-use Prim.Native.Nat.{ℕ, _+_, _-_}
-use mathlib.Core.Path.{_≡_, sym, ap, _∙_, subst}
+use Prim.Native.Nat.{_+_, _-_}
+use mathlib.Core.Path.{sym, _∙_, subst}
 use native.Mathlib.Omega.{arith}
 use denote.Ref.{now}
-use lib.ListN.{take, drop}
+use lib.ListN.{drop}
 use borrow.Author.Tests.{not-true, not-false}
 use Rattle.menu.specs.Table.{TidyRow}
 use Rattle.menu.proofs.Tidy.{tidy-row}
-use Rattle.reader.proofs.Lists.{part-most}
-use Rattle.reader.proofs.Items.{Come, come-none, come-tidy, come-count, come-end, come-full, come-improper, come-twice, come-more, proper-text}
+use Rattle.reader.proofs.Lists.{part-held}
+use Rattle.reader.proofs.Items.{Come, come-none, come-tidy, come-end, come-full, come-improper, come-twice, come-more, proper-text}
 use borrow.Author.Needs.{needs}
 use Rattle.reader.proofs.read_rows.Statement.{statement}
 use Rattle.reader.proofs.read_rows.Tie as tie
@@ -106,15 +106,7 @@ part-row-of-end c =
     omega arith
 
 row-of-requires : tie.Need-row-of-requires Inv-loop μ-loop
-row-of-requires c κs =
-    let p = c .before .before .before .before in
-    let l = p .before in
-    let b2 = l .before in
-    let b1 = b2 .before .before in
-    let lp = b1 .before .before in
-    let y = sym (p .is-proper .ensures) ∙ not-false _ (c .before .before .before .if2 .left) in
-    let w = proper-text (b2 .byte-at2 .result) (l .part-len .result) (b1 .byte-at .result - 1) (lp .loop .next + 3) (now (lp .before .before .before .args .bytes)) (l .part-len .ensures) y in
-    part-most (lp .loop .next + 3) (l .part-len .result) 15 (drop (lp .loop .next + 3) (now (lp .before .before .before .args .bytes))) (w .1)
+row-of-requires c κs = search needs
 
 inserted-requires : tie.Need-inserted-requires Inv-loop μ-loop
 inserted-requires c κs =
@@ -123,7 +115,7 @@ inserted-requires c κs =
     let b2 = l .before in
     let b1 = b2 .before .before in
     let lp = b1 .before .before in
-    (come-tidy (lp .loop .inv), omega (arith, come-count (lp .loop .inv)), subst TidyRow (sym (c .row-of .ensures)) (tidy-row _))
+    (come-tidy (lp .loop .inv), subst TidyRow (sym (c .row-of .ensures)) (tidy-row _))
 
 add-k : tie.Need-add-k Inv-loop μ-loop
 add-k c = search needs
@@ -140,8 +132,7 @@ loop-again c =
     let lp = b1 .before .before in
     let y = sym (p .is-proper .ensures) ∙ not-false _ (c .before .before .before .before .before .if2 .left) in
     let w = proper-text (b2 .byte-at2 .result) (l .part-len .result) (b1 .byte-at .result - 1) (lp .loop .next + 3) (now (lp .before .before .before .args .bytes)) (l .part-len .ensures) y in
-    let k : lp .loop .next + 3 + l .part-len .result - (lp .loop .next + 3) ≡ l .part-len .result = omega arith in
-    come-more (lp .loop .inv) (search needs) (b1 .byte-at .ensures) (b2 .byte-at2 .ensures) (b2 .before .if1 .left) (l .part-len .ensures) (search needs) y (w .0) (c .before .before .before .before .find .ensures) (search needs) (c .before .row-of .ensures) (ap (λ (j : ℕ). take j (drop (lp .loop .next + 3) (now (lp .before .before .before .args .bytes)))) k) (c .inserted .ensures)
+    come-more (lp .loop .inv) (search needs) (b1 .byte-at .ensures) (b2 .byte-at2 .ensures) (b2 .before .if1 .left) (l .part-len .ensures) (search needs) y (w .0) (c .before .before .before .before .find .ensures) (search needs) (c .before .row-of .ensures) (part-held (lp .loop .next + 3) (l .part-len .result) 15 (drop (lp .loop .next + 3) (now (lp .before .before .before .args .bytes))) (w .1)) (c .inserted .ensures)
 
 returns-4 : tie.Need-returns-4 Inv-loop μ-loop
 returns-4 c = come-full (c .before .loop .inv) (search needs)

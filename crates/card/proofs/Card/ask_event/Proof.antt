@@ -1,8 +1,8 @@
 -- `ask_event`: refused, or answered by the applet that was looked up and the owner of call control.
 -- Assumes nothing.
+use Rattle.events.proofs.Places.{kind-of-value}
 use Rattle.card.proofs.Left.{tidy-applets}
-use Rattle.card.proofs.EventLaws.{kind-of-value, place-within, ask-refuses, ask-yes, ask-no}
-use borrow.Author.Needs.{needs}
+use Rattle.card.proofs.EventLaws.{ask-refuses, ask-yes, ask-no}
 use Rattle.card.proofs.Card.ask_event.Statement.{statement}
 use Rattle.card.proofs.Card.ask_event.Tie as tie
 
@@ -10,10 +10,10 @@ look-requires : tie.Need-look-requires
 look-requires c κs = tidy-applets _ (c .before .pre)
 
 kind-of-requires : tie.Need-kind-of-requires
-kind-of-requires c κs = search needs
+kind-of-requires c κs = tt
 
 refusal-for-requires : tie.Need-refusal-for-requires
-refusal-for-requires c κs = search needs
+refusal-for-requires c κs = tt
 
 returns : tie.Need-returns
 returns c =
@@ -23,10 +23,10 @@ returns c =
     ask-refuses _ (l .before .before .pre) _ _ _ (l .look .ensures) _ (kind-of-value _ (l .before .before .fits .value) (k .kind-of .ensures)) (r .refusal-for .ensures) (c .if1 .taken)
 
 place-of-requires : tie.Need-place-of-requires
-place-of-requires c κs = search needs
+place-of-requires c κs = tt
 
 is-registered-requires : tie.Need-is-registered-requires
-is-registered-requires c κs = place-within _ (c .before .before .before .kind-of .ensures) (c .place-of .ensures)
+is-registered-requires c κs = tt
 
 returns-2 : tie.Need-returns-2
 returns-2 c =

@@ -1,8 +1,8 @@
 -- `clear_event`: refused, or the registration changed.
 -- Assumes nothing.
+use Rattle.events.proofs.Places.{kind-of-value, place-within}
 use Rattle.card.proofs.Left.{tidy-applets}
-use Rattle.card.proofs.EventLaws.{kind-of-value, place-within, clear-finds, clear-refuses, clear-accepts}
-use borrow.Author.Needs.{needs}
+use Rattle.card.proofs.EventLaws.{clear-finds, clear-refuses, clear-accepts}
 use Rattle.card.proofs.Card.clear_event.Statement.{statement}
 use Rattle.card.proofs.Card.clear_event.Tie as tie
 
@@ -10,10 +10,10 @@ look-requires : tie.Need-look-requires
 look-requires c κs = tidy-applets _ (c .before .pre)
 
 kind-of-requires : tie.Need-kind-of-requires
-kind-of-requires c κs = search needs
+kind-of-requires c κs = tt
 
 refusal-for-requires : tie.Need-refusal-for-requires
-refusal-for-requires c κs = search needs
+refusal-for-requires c κs = tt
 
 returns : tie.Need-returns
 returns c =
@@ -24,7 +24,7 @@ returns c =
     clear-refuses _ (s .pre) _ _ _ (l .look .ensures) _ (kind-of-value _ (s .fits .value) (k .kind-of .ensures)) (r .refusal-for .ensures) (c .if1 .taken)
 
 place-of-requires : tie.Need-place-of-requires
-place-of-requires c κs = search needs
+place-of-requires c κs = tt
 
 registered-requires : tie.Need-registered-requires
 registered-requires c κs =

@@ -1,6 +1,5 @@
 -- `delete`: refused where no applet has the number; else it is gone with all that is its own, and what that hides is marked.
 -- Assumes nothing.
-use borrow.Author.Needs.{needs}
 use borrow.Author.Tests.{not-true, not-false}
 use Rattle.card.proofs.Left.{tidy-applets, tidy-rows}
 use Rattle.card.proofs.AdminLaws.{delete-refuses, delete-accepts}
@@ -22,10 +21,10 @@ without-requires-2 : tie.Need-without-requires-2
 without-requires-2 c κs = tidy-rows _ (c .before .before .before .before .before .before .before .before .before .pre)
 
 freed-requires : tie.Need-freed-requires
-freed-requires c κs = search needs
+freed-requires c κs = tt
 
 forgotten-requires : tie.Need-forgotten-requires
-forgotten-requires c κs = search needs
+forgotten-requires c κs = tt
 
 marked-for-requires : tie.Need-marked-for-requires
 marked-for-requires c κs =

@@ -1,5 +1,6 @@
 -- `envelope`: refused where the bytes are malformed, else those whom it is for are called.
 -- Assumes nothing.
+use Rattle.card.proofs.Left.{tidy-applets, tidy-rows}
 use Rattle.card.proofs.ArrivalLaws.{envelope-refuses, envelope-accepts}
 use Rattle.card.proofs.Card.envelope.Statement.{statement}
 use Rattle.card.proofs.Card.envelope.Tie as tie
@@ -19,10 +20,12 @@ returns c =
     envelope-refuses _ (b .before .before .before .pre) _ (b .before .read-envelope .ensures) (b .is-bad .ensures) (c .before .if1 .taken) (c .refused .ensures)
 
 callees-requires : tie.Need-callees-requires
-callees-requires c κs = c .before .before .before .before .pre
+callees-requires c κs =
+    let s = c .before .before .before .before .before .before .before in
+    (tidy-applets _ (s .pre), tidy-rows _ (s .pre))
 
-has-response-requires : tie.Need-has-response-requires
-has-response-requires c κs = tt
+envelope-marks-requires : tie.Need-envelope-marks-requires
+envelope-marks-requires c κs = tt
 
 named-requires : tie.Need-named-requires
 named-requires c κs = tt
@@ -30,8 +33,9 @@ named-requires c κs = tt
 returns-2 : tie.Need-returns-2
 returns-2 c =
     let k = c .before .before in
-    let b = k .before .before in
-    envelope-accepts _ (b .before .before .before .pre) _ (b .before .read-envelope .ensures) (b .is-bad .ensures) (k .before .if1 .left) (k .callees .ensures) (c .before .has-response .ensures) (c .named .ensures)
+    let i = k .before .before .before .before in
+    let b = i .before in
+    envelope-accepts _ (b .before .before .before .pre) _ (b .before .read-envelope .ensures) (b .is-bad .ensures) (i .if1 .left) (k .callees .ensures) (c .before .envelope-marks .ensures) (c .named .ensures)
 
 pub envelope-spec : {M : Type 1} → statement M
 envelope-spec =
@@ -42,6 +46,6 @@ envelope-spec =
     refused-requires
     returns
     callees-requires
-    has-response-requires
+    envelope-marks-requires
     named-requires
     returns-2)

@@ -1,7 +1,7 @@
 -- `install`: refused by the number that the table gives; else the newcomer stands behind the applets present.
 -- Assumes nothing.
 use Rattle.card.proofs.Left.{tidy-applets}
-use Rattle.card.proofs.AdminLaws.{install-refuses, place-left, install-accepts}
+use Rattle.card.proofs.AdminLaws.{install-refuses, install-accepts}
 use Rattle.card.proofs.Card.install.Statement.{statement}
 use Rattle.card.proofs.Card.install.Tie as tie
 
@@ -9,10 +9,7 @@ install-refusal-requires : tie.Need-install-refusal-requires
 install-refusal-requires c κs = tidy-applets _ (c .before .pre)
 
 installed-requires : tie.Need-installed-requires
-installed-requires c κs =
-    let b = c .before in
-    let s = b .before .before in
-    (tidy-applets _ (s .pre), place-left _ (s .pre) (s .args .applet) (s .args .request) _ (b .install-refusal .ensures) (c .if1 .taken))
+installed-requires c κs = tidy-applets _ (c .before .before .before .pre)
 
 returns : tie.Need-returns
 returns c =

@@ -1,74 +1,56 @@
 -- `new_entry`: refused or accepted by the table; the menu is marked where the applet is selectable.
 -- Assumes nothing.
-use borrow.Author.Needs.{needs}
+use lib.ListN.{take}
 use Rattle.menu.specs.Table.{newRow}
 use Rattle.card.proofs.Left.{tidy-applets, tidy-rows}
-use Rattle.card.proofs.NewEntryLaws.{Ready, row-tidy, new-refused, new-ready, new-accepted}
+use Rattle.card.proofs.NewEntryLaws.{row-tidy, new-refused, new-accepted}
 use Rattle.card.proofs.Card.new_entry.Statement.{statement}
 use Rattle.card.proofs.Card.new_entry.Tie as tie
-
--- what is ready where nothing is refused
-ready
-    : (c : tie.Else1)
-    → let k = c .before .before .before .before in
-    let a = k .before .before .before .before .before .args in
-    Ready (a .self) (a .applet) (a .text .now) (k .look .result)
-ready c =
-    let b = c .before .before in
-    let k = b .before .before in
-    let s = k .before .before .before .before .before in
-    let a = s .args in
-    new-ready (a .self) (s .pre) (a .applet) (a .help) (a .text .now) (k .look .result) (k .look .ensures) (b .made-refusal .ensures) (c .before .text-refusal .ensures) (c .if1 .left)
 
 look-requires : tie.Need-look-requires
 look-requires c κs = tidy-applets _ (c .before .before .before .before .pre)
 
-made-refusal-requires : tie.Need-made-refusal-requires
-made-refusal-requires c κs = search needs
-
-text-refusal-requires : tie.Need-text-refusal-requires
-text-refusal-requires c κs = search needs
+new-refusal-requires : tie.Need-new-refusal-requires
+new-refusal-requires c κs = tt
 
 returns : tie.Need-returns
 returns c =
-    let b = c .before .before in
+    let b = c .before in
     let k = b .before .before in
     let s = k .before .before .before .before .before in
     let a = s .args in
-    new-refused (a .self) (s .pre) (a .applet) (a .help) (a .text .now) (k .look .result) (k .look .ensures) (b .made-refusal .ensures) (c .before .text-refusal .ensures) (c .if1 .taken)
+    new-refused (a .self) (s .pre) (a .applet) (a .help) (a .text .now) (k .look .result) (k .look .ensures) (b .new-refusal .ensures) (c .if1 .taken)
 
 next-pair-requires : tie.Need-next-pair-requires
-next-pair-requires c κs = ready c .next
+next-pair-requires c κs = tt
 
 identifier-for-requires : tie.Need-identifier-for-requires
-identifier-for-requires c κs = tidy-rows _ (c .before .before .before .before .before .before .before .before .before .before .pre)
+identifier-for-requires c κs = tidy-rows _ (c .before .before .before .before .before .before .before .before .before .pre)
 
 row-of-requires : tie.Need-row-of-requires
-row-of-requires c κs = ready (c .before .before) .fits
+row-of-requires c κs = tt
 
 inserted-requires : tie.Need-inserted-requires
 inserted-requires c κs =
     let d = c .before .before .before in
-    let s = d .before .before .before .before .before .before .before .before .before in
+    let s = d .before .before .before .before .before .before .before .before in
     let a = s .args in
-    (tidy-rows _ (s .pre), ready d .room, row-tidy (newRow (c .before .identifier-for .result) (a .applet) (a .help) (a .text .now)) (c .row-of .ensures))
+    (tidy-rows _ (s .pre), row-tidy (newRow (c .before .identifier-for .result) (a .applet) (a .help) (take 15 (a .text .now))) (c .row-of .ensures))
 
 one-more-requires : tie.Need-one-more-requires
-one-more-requires c κs =
-    let d = c .before .before .before .before in
-    (tidy-applets _ (d .before .before .before .before .before .before .before .before .before .pre), ready d .more)
+one-more-requires c κs = tidy-applets _ (c .before .before .before .before .before .before .before .before .before .before .before .before .pre)
 
 marked-requires : tie.Need-marked-requires
-marked-requires c κs = search needs
+marked-requires c κs = tt
 
 returns-2 : tie.Need-returns-2
 returns-2 c =
     let d = c .before .before .before .before .before .before in
-    let b = d .before .before in
+    let b = d .before in
     let k = b .before .before in
     let s = k .before .before .before .before .before in
     let a = s .args in
-    new-accepted (a .self) (s .pre) (a .applet) (a .help) (a .text .now) (k .look .result) (k .look .ensures) (b .made-refusal .ensures) (d .before .text-refusal .ensures) (d .if1 .left)
+    new-accepted (a .self) (s .pre) (a .applet) (a .help) (a .text .now) (k .look .result) (k .look .ensures) (b .new-refusal .ensures) (d .if1 .left)
     (c .before .before .before .before .before .next-pair .ensures)
     (c .before .before .before .before .identifier-for .ensures)
     (c .before .before .before .row-of .ensures)
@@ -81,8 +63,7 @@ new-entry-spec =
     tie.close
     (tie.spec
     look-requires
-    made-refusal-requires
-    text-refusal-requires
+    new-refusal-requires
     returns
     next-pair-requires
     identifier-for-requires

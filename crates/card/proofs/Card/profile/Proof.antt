@@ -13,7 +13,7 @@ returns : tie.Need-returns
 returns c = profile-refuses _ (c .before .before .before .pre) _ (c .before .if1 .taken) (c .refused .ensures)
 
 called-for-event-requires : tie.Need-called-for-event-requires
-called-for-event-requires c κs = (tidy-applets _ (c .before .before .before .before .before .pre), omega arith)
+called-for-event-requires c κs = tidy-applets _ (c .before .before .before .before .before .pre)
 
 proactive-only-requires : tie.Need-proactive-only-requires
 proactive-only-requires c κs = tt

@@ -2,12 +2,11 @@
 -- Assumes nothing.
 use Rattle.card.proofs.Left.{tidy-applets}
 use Rattle.card.proofs.Registered.{control-registers, event-registers}
-use borrow.Author.Needs.{needs}
 use Rattle.card.proofs.Card.registered.Statement.{statement}
 use Rattle.card.proofs.Card.registered.Tie as tie
 
 owner-after-requires : tie.Need-owner-after-requires
-owner-after-requires c κs = search needs
+owner-after-requires c κs = tt
 
 returns : tie.Need-returns
 returns c =
@@ -15,13 +14,13 @@ returns c =
     control-registers _ (s .pre .0) _ _ _ (c .before .if1 .taken) (c .owner-after .ensures)
 
 event-turns-requires : tie.Need-event-turns-requires
-event-turns-requires c κs = (tidy-applets _ (c .before .before .pre .0), c .before .before .pre .3)
+event-turns-requires c κs = tidy-applets _ (c .before .before .pre .0)
 
 registered-requires : tie.Need-registered-requires
-registered-requires c κs = (tidy-applets _ (c .before .before .before .pre .0), c .before .before .before .pre .3)
+registered-requires c κs = tidy-applets _ (c .before .before .before .pre .0)
 
 marked-requires : tie.Need-marked-requires
-marked-requires c κs = search needs
+marked-requires c κs = tt
 
 returns-2 : tie.Need-returns-2
 returns-2 c =

@@ -1,6 +1,5 @@
 -- `release`: refused where there is no such applet, else what the bank's call gives.
 -- Assumes nothing.
-use borrow.Author.Needs.{needs}
 use Rattle.card.proofs.Left.{tidy-applets}
 use Rattle.card.proofs.TimerLaws.{release-refuses, release-gives}
 use Rattle.card.proofs.Card.release.Statement.{statement}
@@ -10,7 +9,7 @@ look-requires : tie.Need-look-requires
 look-requires c κs = tidy-applets (c .before .args .self) (c .before .pre)
 
 release-requires : tie.Need-release-requires
-release-requires c κs = search needs
+release-requires c κs = tt
 
 returns : tie.Need-returns
 returns c =

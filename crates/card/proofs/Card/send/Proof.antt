@@ -1,20 +1,19 @@
 -- `send`: accepted where no line of its refusal holds.
 -- Assumes nothing.
 use denote.Ref.{now}
-use borrow.Author.Needs.{needs}
 use Rattle.card.proofs.Left.{tidy-applets}
 use Rattle.card.proofs.ProactiveLaws.{send-refuses, send-accepts}
 use Rattle.card.proofs.Card.send.Statement.{statement}
 use Rattle.card.proofs.Card.send.Tie as tie
 
 read-command-requires : tie.Need-read-command-requires
-read-command-requires c κs = search needs
+read-command-requires c κs = tt
 
 look-requires : tie.Need-look-requires
 look-requires c κs = let b = c .before .before .before in tidy-applets (b .args .self) (b .pre)
 
 send-refusal-requires : tie.Need-send-refusal-requires
-send-refusal-requires c κs = search needs
+send-refusal-requires c κs = tt
 
 returns : tie.Need-returns
 returns c =

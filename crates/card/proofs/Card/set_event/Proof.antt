@@ -1,8 +1,8 @@
 -- `set_event`: refused, or the registration changed.
 -- Assumes nothing.
+use Rattle.events.proofs.Places.{kind-of-value, place-within}
 use Rattle.card.proofs.Left.{tidy-applets}
-use Rattle.card.proofs.EventLaws.{kind-of-value, place-within, set-finds, set-refuses, set-accepts}
-use borrow.Author.Needs.{needs}
+use Rattle.card.proofs.EventLaws.{set-finds, set-refuses, set-accepts}
 use Rattle.card.proofs.Card.set_event.Statement.{statement}
 use Rattle.card.proofs.Card.set_event.Tie as tie
 
@@ -10,10 +10,10 @@ look-requires : tie.Need-look-requires
 look-requires c κs = tidy-applets _ (c .before .pre)
 
 kind-of-requires : tie.Need-kind-of-requires
-kind-of-requires c κs = search needs
+kind-of-requires c κs = tt
 
 refusal-to-set-requires : tie.Need-refusal-to-set-requires
-refusal-to-set-requires c κs = search needs
+refusal-to-set-requires c κs = tt
 
 returns : tie.Need-returns
 returns c =
@@ -24,7 +24,7 @@ returns c =
     set-refuses _ (s .pre) _ _ _ (l .look .ensures) _ (kind-of-value _ (s .fits .value) (k .kind-of .ensures)) (r .refusal-to-set .ensures) (c .if1 .taken)
 
 place-of-requires : tie.Need-place-of-requires
-place-of-requires c κs = search needs
+place-of-requires c κs = tt
 
 registered-requires : tie.Need-registered-requires
 registered-requires c κs =

@@ -1,6 +1,5 @@
 -- `turn_entry`: enable or disable, refused or accepted by the table; the menu is marked where the row of a selectable applet turns.
 -- Assumes nothing.
-use borrow.Author.Needs.{needs}
 use Rattle.card.proofs.Left.{tidy-applets, tidy-rows}
 use Rattle.card.proofs.EntryLaws.{turn-refused, turn-accepted}
 use Rattle.card.proofs.Card.turn_entry.Statement.{statement}
@@ -21,25 +20,21 @@ returns c =
 turns-enabled-requires : tie.Need-turns-enabled-requires
 turns-enabled-requires c κs = tidy-rows _ (c .before .before .before .before .before .before .pre)
 
-both-requires : tie.Need-both-requires
-both-requires c κs = search needs
-
 enabled-requires : tie.Need-enabled-requires
-enabled-requires c κs = tidy-rows _ (c .before .before .before .before .before .before .before .before .pre)
+enabled-requires c κs = tidy-rows _ (c .before .before .before .before .before .before .before .pre)
 
-marked-requires : tie.Need-marked-requires
-marked-requires c κs = search needs
+marked-row-requires : tie.Need-marked-row-requires
+marked-row-requires c κs = tt
 
 returns-2 : tie.Need-returns-2
 returns-2 c =
-    let b = c .before .before .before .before .before in
+    let b = c .before .before .before .before in
     let s = b .before .before .before .before .before in
     turn-accepted (s .args .self) (s .pre) (s .args .applet) (s .args .identifier) (s .args .on) (b .before .look .result) (b .before .look .ensures) (b .row-refusal .ensures)
-    (c .before .before .before .before .if1 .left)
-    (c .before .before .before .turns-enabled .ensures)
-    (c .before .before .both .ensures)
+    (c .before .before .before .if1 .left)
+    (c .before .before .turns-enabled .ensures)
     (c .before .enabled .ensures)
-    (c .marked .ensures)
+    (c .marked-row .ensures)
 
 pub turn-entry-spec : {M : Type 1} → statement M
 turn-entry-spec =
@@ -49,7 +44,6 @@ turn-entry-spec =
     row-refusal-requires
     returns
     turns-enabled-requires
-    both-requires
     enabled-requires
-    marked-requires
+    marked-row-requires
     returns-2)

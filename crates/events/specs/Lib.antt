@@ -1,0 +1,2 @@
+-- The place of an event.
+pub mod Place

@@ -1,0 +1,3 @@
+-- Laws of the parts.
+pub mod Calling
+pub mod Desks

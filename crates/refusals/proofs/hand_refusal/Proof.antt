@@ -1,0 +1,22 @@
+-- `hand_refusal` meets its contract.
+-- Assumes nothing.
+use borrow.Author.Needs.{needs}
+use Rattle.lists.proofs.Picks.{picks}
+use Rattle.rules.specs.Refusals.{lowest}
+use Rattle.refusals.proofs.hand_refusal.Statement.{statement}
+use Rattle.refusals.proofs.hand_refusal.Tie as tie
+
+returns : tie.Need-returns
+unfolding lowest
+returns c = search (picks, needs)
+
+returns-2 : tie.Need-returns-2
+unfolding lowest
+returns-2 c = search (picks, needs)
+
+returns-3 : tie.Need-returns-3
+unfolding lowest
+returns-3 c = search (picks, needs)
+
+pub hand-refusal-spec : {M : Type 1} → statement M
+hand-refusal-spec = tie.close (tie.spec returns returns-2 returns-3)

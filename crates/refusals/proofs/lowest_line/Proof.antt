@@ -1,0 +1,30 @@
+-- `lowest_line` meets its contract: it tests the lines in the rules' order.
+-- Assumes nothing.
+use borrow.Author.Needs.{needs}
+use Rattle.lists.proofs.Picks.{picks}
+use Rattle.rules.specs.Refusals.{lowest}
+use Rattle.refusals.proofs.lowest_line.Statement.{statement}
+use Rattle.refusals.proofs.lowest_line.Tie as tie
+
+returns : tie.Need-returns
+unfolding lowest
+returns c = search (picks, needs)
+
+returns-2 : tie.Need-returns-2
+unfolding lowest
+returns-2 c = search (picks, needs)
+
+returns-3 : tie.Need-returns-3
+unfolding lowest
+returns-3 c = search (picks, needs)
+
+returns-4 : tie.Need-returns-4
+unfolding lowest
+returns-4 c = search (picks, needs)
+
+returns-5 : tie.Need-returns-5
+unfolding lowest
+returns-5 c = search (picks, needs)
+
+pub lowest-line-spec : {M : Type 1} → statement M
+lowest-line-spec = tie.close (tie.spec returns returns-2 returns-3 returns-4 returns-5)

@@ -1,0 +1,2 @@
+-- The refusal of send.
+pub mod Sent
