@@ -1,0 +1,2 @@
+-- What is asked for, known by its case.
+pub mod AskLaws

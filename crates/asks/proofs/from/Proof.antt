@@ -1,0 +1,47 @@
+-- `asks::from` meets its contract.
+-- Assumes nothing.
+use denote.Ref.{now}
+use Rattle.orders.proofs.OrderLaws.{part-rest}
+use Rattle.asks.proofs.AskLaws.{none-past}
+use borrow.Author.Needs.{needs}
+use Rattle.asks.proofs.from.Statement.{statement}
+use Rattle.asks.proofs.from.Tie as tie
+
+sub-result : tie.Need-sub-result
+sub-result c = search needs
+
+part-result-start : tie.Need-part-result-start
+part-result-start c = search needs
+
+part-result-end : tie.Need-part-result-end
+part-result-end c = search needs
+
+returns : tie.Need-returns
+returns c =
+    let s = now (c .before .before .args .bytes) in
+    none-past s (c .before .if1 .taken)
+
+sub-result-2 : tie.Need-sub-result-2
+sub-result-2 c = search needs
+
+part-result-start-2 : tie.Need-part-result-start-2
+part-result-start-2 c = search needs
+
+part-result-end-2 : tie.Need-part-result-end-2
+part-result-end-2 c = search needs
+
+returns-2 : tie.Need-returns-2
+returns-2 c = part-rest (c .before .before .args .at) (now (c .before .before .args .bytes))
+
+pub from-spec : {M : Type 1} → statement M
+from-spec =
+    tie.close
+    (tie.spec
+    sub-result
+    part-result-start
+    part-result-end
+    returns
+    sub-result-2
+    part-result-start-2
+    part-result-end-2
+    returns-2)

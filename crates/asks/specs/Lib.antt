@@ -1,0 +1,2 @@
+-- What a caller in C asks for.
+pub mod Asks

@@ -1,0 +1,2 @@
+-- What a caller in C gets.
+pub mod Posts

@@ -1,0 +1,25 @@
+-- What a caller in C gets of the calls beside the card.
+use Prim.Native.Nat.{ℕ, _-_}
+use mathlib.Core.Bool.{true, false}
+use mathlib.Core.List.{List}
+use lib.ListN.{length}
+use Rattle.rules.specs.declared.Found.{Found}
+use Rattle.rules.specs.declared.Found.the-variants.{At, Nothing}
+use Rattle.rules.specs.Envelopes.{contentOf}
+use Rattle.rules.specs.Beside.{FreshOutcome}
+use Rattle.card.specs.View.{stored}
+use Rattle.toolkit.specs.declared.Made.{Made}
+use Rattle.toolkit.specs.declared.Spot.{Spot}
+
+-- a fresh card and its refusal
+unfoldable pub madeOf : FreshOutcome → Made
+madeOf o = record { card = stored (o .card); refusal = o .refusal }
+
+-- where an element's value stands; nowhere, an empty part
+unfoldable pub spotOf : Found → Spot
+spotOf (At span) = record { start = span .start; len = span .len; there = true }
+spotOf Nothing = record { start = 0; len = 0; there = false }
+
+-- the handler's content is the end of the envelope
+unfoldable pub contentSpot : List ℕ → Spot
+contentSpot b = record { start = length b - length (contentOf b); len = length (contentOf b); there = true }

@@ -1,0 +1,129 @@
+// What C links: one door for every call of the card, and doors for a fresh card, the readers and the timer bank alone.
+// include/toolkit.h says the same to a C programmer; a card and a bank are lent by their owner and changed where they stand.
+use card::Card;
+use paper::Answer;
+use rules::Bank;
+use rules::Found;
+use rules::Menu;
+ghost use mathlib.Core.Path.{_≡_};
+ghost use Rattle.rules.specs.Holds.{document};
+ghost use Rattle.rules.specs.Held.{storedMenu};
+ghost use Rattle.rules.specs.Bytes.{found};
+ghost use Rattle.rules.specs.Beside.{freshCard, menuReader};
+ghost use Rattle.card.specs.View.{view, Left};
+ghost use Rattle.asks.specs.Asks.{asked};
+ghost use Rattle.port.specs.Posts.{posted, Posts};
+ghost use Rattle.paper.specs.Answers.{Allots, Frees};
+ghost use Rattle.toolkit.specs.Beside.{madeOf, spotOf, contentSpot};
+
+// A fresh card, and the refusal's number (0: none).
+#[repr(C)]
+pub struct Made {
+    pub card: Card,
+    pub refusal: u8,
+}
+
+// A part of the caller's bytes, and whether there is one.
+#[repr(C)]
+pub struct Spot {
+    pub start: usize,
+    pub len: usize,
+    pub there: bool,
+}
+
+// A fresh card with a title; with an empty one where it is refused.
+#[no_mangle]
+pub extern "C" fn toolkit_fresh(title: &[u8]) -> Made
+    ensures { λ r. ⌜ r ≡ madeOf (freshCard document (now (title .entry))) ⌝ }
+{
+    let made = Card::fresh(title);
+    let card = made.card;
+    let done = made.answer;
+    let answer = paper::of_done(done);
+    Made {
+        card,
+        refusal: answer.refusal,
+    }
+}
+
+// Makes the call that a code, an applet and bytes ask for; a lent buffer takes the system command.
+#[no_mangle]
+pub extern "C" fn toolkit_call(
+    card: &mut Card,
+    code: u8,
+    applet: u8,
+    bytes: &[u8],
+    out: &mut [u8],
+) -> Answer
+    requires { ⌜ Left (now card) ⌝ }
+    ensures { λ r. ⌜ Posts (posted (view (now (card .entry))) (asked code applet (now (bytes .entry)) (now (out .entry))) (now (out .entry))) (now (out .exit)) (now (card .exit)) r ⌝ }
+{
+    let before = *card;
+    let after = port::call(before, code, applet, bytes, out);
+    *card = after.card;
+    after.answer
+}
+
+// Where the value of an element stands in a run.
+#[no_mangle]
+pub extern "C" fn toolkit_find(run: &[u8], tag: u16, occurrence: usize) -> Spot
+    ensures { λ r. ⌜ r ≡ spotOf (found (now (run .entry)) tag occurrence) ⌝ }
+{
+    let place = tlv::locate(run, tag, occurrence);
+    match place {
+        Found::At(value) => Spot {
+            start: value.start,
+            len: value.len,
+            there: true,
+        },
+        Found::Nothing => Spot {
+            start: 0,
+            len: 0,
+            there: false,
+        },
+    }
+}
+
+// Where the handler's content stands in an envelope: at its end.
+#[no_mangle]
+pub extern "C" fn toolkit_content(envelope: &[u8]) -> Spot
+    ensures { λ r. ⌜ r ≡ contentSpot (now (envelope .entry)) ⌝ }
+{
+    let part = envelopes::content(envelope);
+    let len = part.len();
+    Spot {
+        start: envelope.len() - len,
+        len,
+        there: true,
+    }
+}
+
+// The title, the help mark and the items of a menu command.
+#[no_mangle]
+pub extern "C" fn toolkit_read_menu(bytes: &[u8]) -> Menu
+    ensures { λ r. ⌜ r ≡ storedMenu (menuReader document (now (bytes .entry))) ⌝ }
+{
+    reader::read_menu(bytes)
+}
+
+// Gives an applet the lowest free timer of a bank.
+#[no_mangle]
+pub extern "C" fn toolkit_allocate(bank: &mut Bank, applet: u8, limit: u8) -> Answer
+    ensures { λ r. ⌜ Allots (now (bank .entry)) applet limit r (now (bank .exit)) ⌝ }
+{
+    let before = *bank;
+    let after = paper::allocate(before, applet, limit);
+    *bank = after.bank;
+    after.answer
+}
+
+// Frees a timer of an applet in a bank.
+#[no_mangle]
+pub extern "C" fn toolkit_release(bank: &mut Bank, applet: u8, timer: u8) -> Answer
+    ensures { λ r. ⌜ Frees (now (bank .entry)) applet timer r (now (bank .exit)) ⌝ }
+{
+    let before = *bank;
+    let after = paper::release(before, applet, timer);
+    *bank = after.bank;
+    after.answer
+}

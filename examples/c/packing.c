@@ -1,0 +1,68 @@
+/* Two packing stations that want a menu entry of the same title, as a card operating system would serve them. */
+#include <stdio.h>
+#include "toolkit.h"
+
+static void print_hex(const char *label, const uint8_t *bytes, size_t length)
+{
+    printf("%s", label);
+    for (size_t i = 0; i < length; i++)
+        printf(" %02X", bytes[i]);
+    printf("\n");
+}
+
+/* The refusal, or what an accepted call answers. */
+static void print_answer(const char *call, struct toolkit_answer answer)
+{
+    if (answer.refusal != TOOLKIT_ACCEPTED) {
+        printf("%-22s refused, %u\n", call, answer.refusal);
+        return;
+    }
+    printf("%-22s accepted", call);
+    if (answer.number != 0)
+        printf(", number %u", answer.number);
+    for (uint8_t i = 0; i < answer.count; i++)
+        printf(", calls applet %u", answer.called[i]);
+    printf("\n");
+}
+
+static struct toolkit_answer choose(struct toolkit_card *card, uint8_t identifier)
+{
+    const uint8_t menu_selection[] = {0xD3, 0x07, 0x82, 0x02, 0x01, 0x81, 0x90, 0x01, identifier};
+    return toolkit_envelope(card, menu_selection, sizeof menu_selection);
+}
+
+int main(void)
+{
+    const struct toolkit_request station = {.priority = 5, .timers = 1, .entries = 1, .text = 15, .pairs = {{0, 0}}};
+    const uint8_t profile[] = {0xFF}, timer_expired[] = {0xD7, 0x07, 0x82, 0x02, 0x82, 0x81, 0xA4, 0x01, 0x01};
+    struct toolkit_card card;
+    struct toolkit_answer answer;
+    uint8_t buffer[TOOLKIT_BUFFER];
+
+    if (toolkit_fresh_card(&card, "Packing", 7) != TOOLKIT_ACCEPTED)
+        return 1;
+    print_answer("install applet 1", toolkit_install(&card, 1, &station));
+    print_answer("install applet 2", toolkit_install(&card, 2, &station));
+    print_answer("entry of applet 1", toolkit_new_entry(&card, 1, false, "Pick list", 9));
+    print_answer("entry of applet 2", toolkit_new_entry(&card, 2, false, "Pick list", 9));
+    print_answer("a second of applet 2", toolkit_new_entry(&card, 2, false, "Crate label", 11));
+
+    print_answer("profile", toolkit_profile(&card, profile, sizeof profile));
+    answer = toolkit_system_command(&card, buffer, sizeof buffer);
+    print_answer("system command", answer);
+    print_hex("menu", buffer, answer.number);
+    print_answer("one more meanwhile", toolkit_system_command(&card, buffer, sizeof buffer));
+    print_answer("response", toolkit_response(&card));
+
+    for (uint8_t i = 0; i < card.rows.count; i++) {
+        const struct toolkit_row *row = &card.rows.at[i];
+        printf("row %u: %.*s\n", row->identifier, row->len, (const char *)row->text);
+        print_answer("  is chosen", choose(&card, row->identifier));
+    }
+
+    print_answer("timer for applet 2", toolkit_allocate_timer(&card, 2));
+    print_answer("it expires", toolkit_envelope(&card, timer_expired, sizeof timer_expired));
+    print_answer("released by applet 1", toolkit_release_timer(&card, 1, 1));
+    print_answer("released by applet 2", toolkit_release_timer(&card, 2, 1));
+    return 0;
+}

@@ -1,0 +1,4 @@
+#pragma once
+#define NULL ((void *)0)
+#define offsetof(type, field) __builtin_offsetof(type, field)
+typedef __SIZE_TYPE__ size_t;
