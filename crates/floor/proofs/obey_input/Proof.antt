@@ -1,15 +1,16 @@
--- `floor::obey_input` meets its contract: the turns fall.
+-- `floor::obey_input` meets its contract: the turns fall, and the numbers of the records of those that are left fit.
 -- Assumes nothing.
+use Prim.Native.Nat.{_+_, _*_, _^_, _<_}
 use borrow.Author.Needs.{needs}
 use Rattle.card.specs.View.{Left}
 use Rattle.floor.proofs.obey_input.Statement.{statement}
 use Rattle.floor.proofs.obey_input.Tie as tie
 
 abbrev Inv-loop : tie.InvT-loop
-Inv-loop run₀ turns₀ run turns = Left (run .card)
+Inv-loop stand₀ turns₀ stand turns = Left (stand .card) × (stand .number + 64 * turns < 2 ^ 64)
 
 abbrev μ-loop : tie.MeasureT-loop
-μ-loop run₀ turns₀ run turns = turns
+μ-loop stand₀ turns₀ stand turns = turns
 
 loop-holds : tie.Need-loop-holds Inv-loop μ-loop
 loop-holds c = search needs

@@ -1,0 +1,2 @@
+-- The laws of a turn.
+pub mod Turns

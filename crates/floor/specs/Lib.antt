@@ -1,0 +1,2 @@
+-- Where a turn leaves the floor program.
+pub mod Turned

@@ -1,0 +1,7 @@
+-- The laws of pieces, and the promise of the floor program.
+pub mod Parts
+pub mod Reached
+pub mod PieceLaws
+pub mod Begun
+pub mod Joined
+pub mod Promise

@@ -1,0 +1,50 @@
+// The records of a piece of input obeyed, and their lines, one behind the other.
+use card::Card;
+use records::obey;
+ghost use mathlib.Core.Path.{_≡_};
+ghost use Prim.Native.Nat.{_+_, _*_, _^_, _<_, _≤_, min};
+ghost use lib.ListN.{length};
+ghost use Rattle.card.specs.View.{view, Left};
+ghost use Rattle.pieces.specs.Pieces.{recordsIn, ObeysAll};
+
+// What a piece leaves: the card, the number of the next record, and how many bytes its lines have.
+pub struct Run {
+    pub card: Card,
+    pub number: u64,
+    pub length: usize,
+}
+
+// The end of the record that starts at an index: 24 bytes on, or the end of the input.
+fn end_of(from: usize, len: usize) -> usize
+    requires { ⌜ from < len ⌝ }
+    ensures { λ r. ⌜ r ≡ min (from + 24) len ⌝ }
+{
+    if len - from < 24 { len } else { from + 24 }
+}
+
+// Obeys the records of a piece of input, the first of which has this number, and writes their lines at the front of the buffer.
+pub fn obey_all(card: Card, number: u64, input: &[u8], out: &mut [u8]) -> Run
+    requires { ⌜ Left card × (number + recordsIn (now input) < 2 ^ 64) × (540 * recordsIn (now input) ≤ length (now out)) ⌝ }
+    ensures { λ r. ⌜ ObeysAll number (view card) (now (input .entry)) (now (out .entry)) (now (out .exit)) r ⌝ }
+{
+    let len = input.len();
+    let mut left = card;
+    let mut next = number;
+    let mut at = 0;
+    let mut i = 0;
+    while 24 * i < len {
+        let from = 24 * i;
+        let to = end_of(from, len);
+        let end = at + 540;
+        let obeyed = obey(left, next, &input[from..to], &mut out[at..end]);
+        left = obeyed.card;
+        at += obeyed.length;
+        next += 1;
+        i += 1;
+    }
+    Run {
+        card: left,
+        number: next,
+        length: at,
+    }
+}
