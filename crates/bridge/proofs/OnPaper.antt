@@ -1,11 +1,9 @@
 -- The case of the enum, or the struct, that a call answers with is on paper what the rules answer. Assumes nothing.
 use Prim.Native.Nat.{ℕ, zero, suc}
-use mathlib.Core.Path.{_≡_, refl, sym, ap, _∙_}
+use mathlib.Core.Path.{_≡_, refl}
 use mathlib.Core.Bool.{Bool, true, false}
 use mathlib.Core.List.{List}
 use lib.Dec.{eqb·suc-zero}
-use Rattle.lists.specs.Tests.{if_then_else_}
-use Rattle.lists.specs.Lists.{padded}
 use Rattle.lists.proofs.Padded.{take-padded}
 use Rattle.rules.specs.declared.Marks.{Marks}
 use Rattle.rules.specs.Holds.{Model}

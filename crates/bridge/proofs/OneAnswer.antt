@@ -6,7 +6,7 @@ use mathlib.Core.List.{List}
 use lib.IntN.{ℤ}
 use Rattle.rules.specs.declared.Request.{Request}
 use Rattle.rules.specs.Holds.{document}
-use Rattle.rules.specs.Calls.{Call, admin, event, entry, timer, arrival, settled, proactive, systemCommand}
+use Rattle.rules.specs.Calls.{admin, event, entry, timer, arrival, settled, proactive, systemCommand}
 use Rattle.rules.specs.Calls.{install, delete, lock, unlock, setEvent, clearEvent, askEvent, newEntry, changeEntry, enableEntry, disableEntry}
 use Rattle.rules.specs.Calls.{allocate, release, envelope, profile, send, response}
 use Rattle.rules.specs.Step.{step}

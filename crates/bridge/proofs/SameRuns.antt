@@ -1,14 +1,12 @@
 -- THE SEQUENCES ARE THOSE OF THE PUBLIC FUNCTIONS' OWN RESULTS. A card that they have left is one for which the contracts' assumption
 -- holds, it holds the model after these calls, and the calls with their answers are the history that the promises speak of. Assumes nothing.
 use Prim.Native.Nat.{ℕ}
-use mathlib.Core.Path.{_≡_, refl, sym, ap, _∙_}
-use mathlib.Core.Bool.{Bool}
-use mathlib.Core.List.{List, [], _∷_, map}
+use mathlib.Core.Path.{_≡_, refl, ap, _∙_}
+use mathlib.Core.List.{List, _∷_, map}
 use lib.IntN.{ℤ}
 use Rattle.rules.specs.Holds.{Model, document}
-use Rattle.rules.specs.Calls.{Call, Answer, Outcome, only, numbered, calling, event, askEvent, arrival, envelope, profile, settled}
+use Rattle.rules.specs.Calls.{Call, Answer, only, event, askEvent, envelope, profile}
 use Rattle.rules.specs.Step.{step, answer, eventAnswer, entryAnswer, timerAnswer, arrivalAnswer}
-use Rattle.rules.specs.Beside.{FreshOutcome, freshCard}
 use Rattle.rules.specs.Papers.{paperDone, paperGiven, paperTold, paperCalled}
 use Rattle.rules.specs.Runs.{after}
 use Rattle.rules.proofs.Bounds.{after-keeps}
@@ -20,9 +18,9 @@ use Rattle.card.specs.declared.Arrived.{Arrived}
 use Rattle.card.specs.View.{view, stored, Left}
 use Rattle.card.specs.Reply.{givenOf, toldOf, calledOf, changedBy, numberedBy, askedBy, arrivedBy, madeBy}
 use Rattle.card.proofs.Left.{view-stored}
-use Rattle.history.specs.Histories.{Entry, History}
+use Rattle.history.specs.Histories.{Entry, did, History}
 use Rattle.history.specs.Runs.{historyOf}
-use Rattle.bridge.specs.Sequences.{Doing, Giving, Naming, did, Came, made, done, given, told, named}
+use Rattle.bridge.specs.Sequences.{Doing, Giving, Naming, Came, made, done, given, told, named}
 use Rattle.bridge.specs.Sequences as is
 use Rattle.bridge.proofs.OnPaper.{done-on-paper, given-on-paper, told-on-paper, called-on-paper}
 

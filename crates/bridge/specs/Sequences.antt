@@ -5,7 +5,7 @@ use mathlib.Core.Bool.{Bool}
 use mathlib.Core.List.{List, [], _∷_}
 use lib.IntN.{ℤ}
 use Rattle.rules.specs.Holds.{document}
-use Rattle.rules.specs.Calls.{Call, Answer, admin, event, entry, timer, arrival, settled, proactive, systemCommand}
+use Rattle.rules.specs.Calls.{Call, admin, event, entry, timer, arrival, settled, proactive, systemCommand}
 use Rattle.rules.specs.Calls.{AdminCall, setEvent, clearEvent, askEvent, newEntry, changeEntry, enableEntry, disableEntry}
 use Rattle.rules.specs.Calls.{allocate, release, ArrivalCall, ProactiveCall}
 use Rattle.rules.specs.Step.{step}
@@ -18,7 +18,7 @@ use Rattle.card.specs.declared.Asked.{Asked}
 use Rattle.card.specs.declared.Arrived.{Arrived}
 use Rattle.card.specs.View.{view}
 use Rattle.card.specs.Reply.{changedBy, numberedBy, askedBy, arrivedBy, madeBy}
-use Rattle.history.specs.Histories.{Entry, History}
+use Rattle.history.specs.Histories.{did, History}
 
 -- a call that only does something
 pub data Doing : Call → Type 0 where
@@ -41,9 +41,6 @@ pub data Giving : Call → Type 0 where
 pub data Naming : Call → Type 0 where
   is-arrival : (x : ArrivalCall) → Naming (arrival x)
   is-settled : Naming settled
-
-abbrev pub did : Call → Answer → Entry
-did x a = record { call = x; answer = a }
 
 -- A fresh card, and then what the methods hand back; the newest call stands first.
 pub data Came (title : List ℕ) : History → Card → Type 0 where

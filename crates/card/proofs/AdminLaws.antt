@@ -1,6 +1,6 @@
 -- Install, delete, lock and unlock, by the rules: the refusals, the parts of the card that an accepted call leaves, and its due marks.
 -- Assumes nothing.
-use Prim.Native.Nat.{ℕ, _<_}
+use Prim.Native.Nat.{ℕ}
 use native.Mathlib.Omega.{arith}
 use mathlib.Core.Path.{_≡_, refl, sym, ap, _∙_}
 use mathlib.Core.Bool.{Bool, true, false, not, Bool·beq, _&&_}
@@ -47,7 +47,7 @@ use Rattle.card.specs.declared.Changed.{Changed}
 use Rattle.card.specs.View.{view, stored, Left}
 use Rattle.card.specs.Reply.{changedBy}
 use Rattle.card.specs.Locks.{locking}
-use Rattle.card.proofs.Left.{left-sound, tidy-applets}
+use Rattle.card.proofs.Left.{left-sound}
 use Rattle.card.proofs.Reply.{card-is, rows-form, bank-form, control-form, desk-form, refused-changed, accepted-changed}
 
 -- the call on a card gives this card with this answer

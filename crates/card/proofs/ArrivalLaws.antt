@@ -3,7 +3,7 @@
 use Prim.Native.Nat.{ℕ, _≤_}
 use native.Mathlib.Omega.{arith}
 use mathlib.Core.Path.{_≡_, refl, sym, ap, _∙_}
-use mathlib.Core.Bool.{Bool, true, false, not}
+use mathlib.Core.Bool.{Bool, true, false}
 use mathlib.Core.List.{List, [], _∷_, map}
 use lib.ListN.{length}
 use Rattle.lists.specs.Lists.{Every, empty?}
@@ -12,17 +12,15 @@ use Rattle.lists.specs.Tests.{if_then_else_}
 use Rattle.rules.specs.declared.Called.{Called}
 use Rattle.rules.specs.declared.Marks.{Marks}
 use Rattle.rules.specs.declared.Applets.{Applets}
-use Rattle.rules.specs.declared.Rows.{Rows}
 use Rattle.rules.specs.declared.Desk as held
-use Rattle.rules.specs.declared.Kind.the-variants.{Event}
 use Rattle.rules.specs.declared.Envelope.{Envelope}
-use Rattle.rules.specs.Holds.{Applet, Row, Bounds, Tables, Desk, Model, withApplets}
+use Rattle.rules.specs.Holds.{Applet, Bounds, Tables, Desk, Model, withApplets}
 use Rattle.rules.specs.Envelopes.{envelopeOf, badEnvelope}
 use Rattle.rules.specs.Applets.{usedUp}
 use Rattle.rules.specs.Held.{viewApplets, storedApplets, viewRows, viewDesk}
-use Rattle.rules.specs.Arrivals.{Arrival, nothing, arrivalOf, called, envelopeMarks, profileArrival, settledArrival, proactiveOnly}
+use Rattle.rules.specs.Arrivals.{Arrival, arrivalOf, called, envelopeMarks, profileArrival, settledArrival, proactiveOnly}
 use Rattle.rules.specs.Calls.{Call, arrival, envelope, profile, settled, calling}
-use Rattle.rules.specs.Desk.{marked, withProfile}
+use Rattle.rules.specs.Desk.{withProfile}
 use Rattle.rules.specs.Refusals.{refusal, lines, lowest, arrivalLines}
 use Rattle.rules.specs.Step.{step, changed, tablesAfter, deskAfter, arrivalDesk, answer, arrivalAnswer}
 use Rattle.rules.proofs.Due.{marked-same}

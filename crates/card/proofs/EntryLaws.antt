@@ -1,6 +1,6 @@
 -- The calls about menu entries, by the rules.
 -- Assumes nothing.
-use Prim.Native.Nat.{ℕ, _≤_}
+use Prim.Native.Nat.{ℕ}
 use native.Mathlib.Omega.{arith}
 use mathlib.Core.Path.{_≡_, refl, sym, ap, _∙_}
 use mathlib.Core.Bool.{Bool, true, false, not, _&&_}
@@ -18,7 +18,6 @@ use Rattle.rules.specs.Holds.{Row, Bounds, Tables, withRows}
 use Rattle.rules.specs.Held.{viewApplet, viewApplets, storedApplet, viewRows, storedRows}
 use Rattle.rules.specs.Applets.{applet}
 use Rattle.rules.specs.Rows.{badText, notItsRow, withText, withEnabled}
-use Rattle.rules.specs.Commands.{selectable}
 use Rattle.rules.specs.Desk.{menuChanges, marked}
 use Rattle.rules.specs.Calls.{EntryCall, entry, changeEntry, only}
 use Rattle.rules.specs.Refusals.{line, lowest, refusal}

@@ -22,6 +22,7 @@ use Rattle.rules.specs.Commands.{selectable, shownMenu, listened, shownFrom, sh
 use Rattle.rules.specs.Desk.{dueCommand, withHandedOut}
 use Rattle.rules.specs.Refusals.{refusal, line, lines, lowest}
 use Rattle.rules.specs.Step.{step, changed, tablesAfter, deskAfter, answer, front, written, lent}
+use Rattle.rules.proofs.Listed.{length-most}
 use Rattle.rules.proofs.Due.{marked-same}
 use Rattle.rules.proofs.Held.{rows-back}
 use Rattle.runs.specs.Sound.{SoundRow}
@@ -29,7 +30,7 @@ use Rattle.menu.proofs.Tidy.{tidy-stored}
 use Rattle.lists.specs.Wrote.{Wrote, putAt}
 use Rattle.command.specs.Fits.{Short, Fits}
 use Rattle.lists.proofs.Writing.{wrote-none}
-use Rattle.command.proofs.Whole.{menu-most, length-most}
+use Rattle.command.proofs.Whole.{menu-most}
 use Rattle.display.specs.declared.Codes.{Codes}
 use Rattle.display.specs.Shows.{Able, rowsBy, ShowsCodes}
 use Rattle.display.proofs.Promise.{rows-shown}

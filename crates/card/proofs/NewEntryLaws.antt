@@ -28,7 +28,7 @@ use Rattle.rules.specs.Step.{step, changed, tablesAfter, deskAfter, entryTables
 use Rattle.runs.specs.Sound.{SoundApplet}
 use Rattle.runs.proofs.Looked.{has-its-number, sound-applet}
 use Rattle.runs.proofs.Filled.{NewEntry, new-entry}
-use Rattle.runs.proofs.Granted.{entry-has-place}
+use Rattle.runs.proofs.Room.{entry-room}
 use Rattle.registry.specs.declared.Looked.{Looked}
 use Rattle.registry.specs.Looks.{lookedUp}
 use Rattle.registry.specs.Counts.{countedOn}
@@ -104,7 +104,7 @@ module _ (c : Card) (l : Left c) (n : ℕ) (help : Bool) (text : List ℕ) (x : 
     put : (p : ℕ) (new : Row) → withRow p new (t .rows) ≡ insertAt (place p (length (t .rows))) new (t .rows)
     put p new =
         inserted-room p new (t .rows)
-        (omega (arith, entry-has-place (view c) (left-sound c l) n help text (sym news-refusal ∙ z), ap (λ (b : Bounds). b .rows) (left-bounds c l)))
+        (omega (arith, entry-room t (left-sound c l .tables) n (news .here) (news .more), ap (λ (b : Bounds). b .rows) (left-bounds c l)))
 
     counts : change (hasNumber n) countedOn (viewApplets (c .applets)) ≡ change (hasNumber n) withOneMore (viewApplets (c .applets))
     unfolding view applet

@@ -19,6 +19,7 @@ use Rattle.registry.specs.declared.Looked.{Looked}
 use Rattle.registry.specs.Looks.{lookedUp}
 use Rattle.refusals.specs.Sent.{sendRefusal}
 use Rattle.refusals.proofs.Calls.{send-is}
+use Rattle.due.specs.Turns.{heldMarks}
 use Rattle.card.specs.declared.Card.{Card}
 use Rattle.card.specs.declared.Changed.{Changed}
 use Rattle.card.specs.View.{view, Left}
@@ -27,16 +28,7 @@ use Rattle.card.proofs.Reply.{card-is, applets-form, rows-form, bank-fo
 
 -- the card with a command outstanding, or with none
 abbrev waiting : Bool → held-desk.Desk → held-desk.Desk
-waiting b d =
-    record {
-      title = d .title;
-      «title_len» = d .«title_len»;
-      profile = d .profile;
-      session = d .session;
-      outstanding = b;
-      «menu_due» = d .«menu_due»;
-      «events_due» = d .«events_due»;
-    }
+waiting b d = heldMarks d b (d .«menu_due») (d .«events_due»)
 
 abbrev withCommand : Bool → Card → Card
 withCommand b c = record { applets = c .applets; rows = c .rows; bank = c .bank; control = c .control; desk = waiting b (c .desk) }

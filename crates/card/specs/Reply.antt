@@ -1,6 +1,4 @@
 -- What a method hands back, by the rules' outcome of the call.
-use Prim.Native.Nat.{ℕ}
-use mathlib.Core.Bool.{Bool}
 use lib.ListN.{length}
 use Rattle.lists.specs.Tests.{if_then_else_, _==_}
 use Rattle.lists.specs.Lists.{padded}

@@ -1,22 +1,21 @@
 -- The bytes of rows, row by row, and how many a command has.
 -- Assumes nothing.
-use Prim.Native.Nat.{ℕ, zero, suc, _+_, _-_, _*_, _≤_, _<_}
+use Prim.Native.Nat.{ℕ, zero, suc, _+_, _*_, _≤_, _<_}
 use native.Mathlib.Omega.{arith}
 use native.Mathlib.Numerals.{add-one}
 use mathlib.Core.Path.{_≡_, refl, sym, ap, _∙_}
-use mathlib.Core.Bool.{Bool, true, false}
+use mathlib.Core.Bool.{Bool, false}
 use mathlib.Core.List.{List, [], _∷_, _++_, map, append-assoc, append-nil}
-use lib.ListN.{length, take, drop, getD, length-append, List·getD-map}
-use lib.Seq.{take-suc, take-all, getD-take}
-use Rattle.lists.specs.Tests.{if_then_else_, _<?_}
-use Rattle.lists.specs.Lists.{Every, some?, padded, gather, empty?}
+use lib.ListN.{length, take, getD, length-append, List·getD-map}
+use lib.Seq.{take-suc, take-all}
+use Rattle.lists.specs.Lists.{Every, some?, gather, empty?}
 use Rattle.lists.proofs.Padded.{take-padded, get-padded, length-padded, getD-any}
 use Rattle.lists.proofs.Mapped.{map-length, map-append}
 use Rattle.rules.specs.declared.Row as held
 use Rattle.rules.specs.declared.Rows.{Rows}
 use Rattle.rules.specs.Holds.{Row}
-use Rattle.rules.specs.Held.{viewRow, storedRow, noRow, viewRows, TidyRows}
-use Rattle.rules.specs.Commands.{Item, Menu, lengthBytes, commandBytes, detailBytes, itemBytes, itemsBytes, menuOf, menuValue, menuBytes}
+use Rattle.rules.specs.Held.{viewRow, storedRow, noRow, viewRows}
+use Rattle.rules.specs.Commands.{Item, itemBytes, itemsBytes}
 use Rattle.menu.proofs.Tidy.{blank, at-is, count-is, some-viewed}
 use Rattle.command.specs.Fits.{itemOf, itemsOf, rowsBytes, Short, Fits}
 

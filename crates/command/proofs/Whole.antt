@@ -1,29 +1,22 @@
 -- The parts of a command, written one behind the other, are the command; and they have room in 256 bytes.
 -- Assumes nothing.
-use Prim.Native.Nat.{ℕ, _+_, _≤_, _<_}
+use Prim.Native.Nat.{ℕ, _+_, _≤_}
 use native.Mathlib.Omega.{arith}
-use mathlib.Core.Path.{_≡_, refl, sym, ap, _∙_}
-use mathlib.Core.Bool.{Bool, true, false}
+use mathlib.Core.Path.{_≡_, sym, ap, _∙_}
+use mathlib.Core.Bool.{Bool}
 use mathlib.Core.List.{List, [], _∷_, _++_}
 use lib.ListN.{length, length-append}
-use Rattle.lists.specs.Tests.{if_then_else_, _<?_}
+use Rattle.lists.specs.Tests.{if_then_else_}
 use Rattle.lists.specs.Lists.{some?}
 use Rattle.rules.specs.declared.Rows.{Rows}
 use Rattle.rules.specs.Holds.{Row}
 use Rattle.rules.specs.Held.{viewRows}
 use Rattle.rules.specs.Commands.{lengthBytes, commandBytes, detailBytes, itemsBytes, menuOf, menuValue, menuBytes, eventBytes}
+use Rattle.rules.proofs.Listed.{length-most}
 use Rattle.lists.specs.Wrote.{Wrote}
 use Rattle.command.specs.Fits.{itemsOf, rowsBytes, Fits}
 use Rattle.lists.proofs.Writing.{wrote-then}
 use Rattle.command.proofs.Lines.{items-none, items-some, items-under}
-
-pub length-most : (n : ℕ) → length (lengthBytes n) ≤ 2
-unfolding lengthBytes
-length-most n = go (n <? 0x80)
-  where
-    go : (b : Bool) → length (if b then n ∷ [] else 0x81 ∷ n ∷ []) ≤ 2
-    go true = omega arith
-    go false = omega arith
 
 -- the items
 module _ (s : Rows) (fits : Fits s) {b c : List ℕ} {at n : ℕ} where

@@ -28,7 +28,6 @@ use Rattle.rules.specs.Held.{storedApplet, storedRow, viewRows, storedRows, Tid
 use Rattle.menu.proofs.Tidy.{blank, held-is, stands}
 use Rattle.listeners.specs.Listens.{listens}
 use Rattle.listeners.proofs.Codes.{listened-is}
-use Rattle.display.specs.declared.Codes.{Codes}
 use Rattle.display.specs.Shows.{isAble, Able, OneMore, rowsBy, codesFrom, ShowsCodes}
 
 -- THE NUMBERS

@@ -13,8 +13,12 @@ ghost use Rattle.display.specs.Shows.{Able, OneMore, rowsBy, ShowsCodes}
 
 // The codes of the shown events, ascending.
 pub struct Codes {
-    pub at: [u8; 13],
+    pub at: [u8; Codes::MOST],
     pub count: u8,
+}
+
+impl Codes {
+    pub const MOST: usize = 13;
 }
 
 // The numbers of selectable applets, with the number of one more if it is.
@@ -103,10 +107,10 @@ pub fn shown_codes(s: Applets) -> Codes
         0x0E,
         0x0F,
     ];
-    let mut at = [0; 13];
+    let mut at = [0; Codes::MOST];
     let mut k: usize = 0;
     let mut i: usize = 0;
-    while i < 13 {
+    while i < Codes::MOST {
         let is = listeners::listened(s, Kind::MT_CALL + i as u8);
         if is {
             at[k] = codes[i];

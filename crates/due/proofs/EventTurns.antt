@@ -8,11 +8,13 @@ use mathlib.Core.List.{List, [], _∷_}
 use lib.ListN.{length, getD, set}
 use lib.Seq.{getD-set-same, getD-set-other}
 use lib.Dec.{eqb, leb, ltb}
-use borrow.Author.Tests.{eq-eqb, ne-eqb, eqb-true, eqb-false, le-leb, lt-leb, lt-ltb, le-ltb, leb-true, leb-false, ltb-true}
-use Rattle.lists.specs.Tests.{if_then_else_, _==_, _<?_, _≤?_}
-use Rattle.lists.specs.Lists.{Every, some?, keep, count, change, alike?, same?, empty?}
-use Rattle.lists.proofs.Truth.{and-left, and-right, and-false, and-swap, beq-self}
+use borrow.Author.Tests.{eq-eqb, ne-eqb, eqb-true, eqb-false, le-leb, lt-leb, lt-ltb, le-ltb, leb-true, leb-false}
+use Rattle.lists.specs.Tests.{if_then_else_, _<?_, _≤?_}
+use Rattle.lists.specs.Lists.{Every, some?, count, change, alike?, same?}
+use Rattle.lists.proofs.Truth.{and-false, and-swap, beq-self}
 use Rattle.lists.proofs.One.{others, some-split, some-changed, some-without}
+use Rattle.lists.proofs.Every.{rises?, rises-head, rises-tail}
+use Rattle.lists.proofs.Walk.{some-alike}
 use Rattle.rules.specs.Holds.{Applet, Row, Tables, withApplets, withRows, withSelectable, withEvent, withOneMore}
 use Rattle.rules.specs.Events.{codes, callControl}
 use Rattle.rules.specs.Applets.{hasNumber, present, applet, nobody, registered}
@@ -20,25 +22,12 @@ use Rattle.rules.specs.Commands.{listened, shownFrom, shownEvents}
 use Rattle.rules.specs.Desk.{eventsChange}
 use Rattle.rules.specs.Step.{adminTables}
 use Rattle.rules.specs.Calls.{delete}
+use Rattle.rules.proofs.Listed.{codes-rise}
 use Rattle.listeners.specs.Listens.{listens, otherListens, someFrom, anyCode, alone}
 use Rattle.due.specs.Turns.{isDownload, eventTurns}
 
--- a list of codes that rises
-below? : ℕ → List ℕ → Bool
-below? c [] = true
-below? c (d ∷ l) = c <? d && below? c l
-
-rises? : List ℕ → Bool
-rises? [] = true
-rises? (c ∷ l) = below? c l && rises? l
-
 abbrev Below : ℕ → List ℕ → Type 0
 Below c l = Every (λ (d : ℕ). c < d) l
-
-below : (c : ℕ) (l : List ℕ) → below? c l ≡ true → Below c l
-unfolding below? Every
-below c [] e = tt
-below c (d ∷ l) e = (ltb-true c d (and-left (c <? d) (below? c l) e), below c l (and-right (c <? d) (below? c l) e))
 
 below-shown : (t : Tables) (c e : ℕ) (l : List ℕ) → Below c l → Below c (shownFrom t e l)
 unfolding shownFrom Every
@@ -65,10 +54,10 @@ abbrev other : Tables → Tables → ℕ → Bool
 other t u e = not (Bool·beq (listened t e) (listened u e))
 
 differs-is : (t u : Tables) (e : ℕ) (l : List ℕ) → rises? l ≡ true → not (same? (shownFrom t e l) (shownFrom u e l)) ≡ someFrom (other t u) (length l) e
-unfolding shownFrom rises? same? alike? someFrom
+unfolding shownFrom same? alike? someFrom
 differs-is t u e [] r = refl
 differs-is t u e (c ∷ l) r =
-    go (listened t e) (listened u e) (differs-is t u (suc e) l (and-right (below? c l) (rises? l) r)) (below c l (and-left (below? c l) (rises? l) r))
+    go (listened t e) (listened u e) (differs-is t u (suc e) l (rises-tail c l r)) (rises-head c l r)
   where
     go : (x y : Bool) → not (same? (shownFrom t (suc e) l) (shownFrom u (suc e) l)) ≡ someFrom (other t u) (length l) (suc e) → Below c l
         → not (same? (if x then c ∷ shownFrom t (suc e) l else shownFrom t (suc e) l) (if y then c ∷ shownFrom u (suc e) l else shownFrom u (suc e) l))
@@ -78,10 +67,10 @@ differs-is t u e (c ∷ l) r =
     go false true i b = ap not (second-apart c (shownFrom u (suc e) l) (shownFrom t (suc e) l) (below-shown t c (suc e) l b))
     go false false i b = i
 
-some-alike : (p q : ℕ → Bool) (n e : ℕ) → ((j : ℕ) → e ≤ j → j < e + n → p j ≡ q j) → someFrom p n e ≡ someFrom q n e
+from-alike : (p q : ℕ → Bool) (n e : ℕ) → ((j : ℕ) → e ≤ j → j < e + n → p j ≡ q j) → someFrom p n e ≡ someFrom q n e
 unfolding someFrom
-some-alike p q zero e h = refl
-some-alike p q (suc n) e h = rw (h e (omega arith) (omega arith), some-alike p q n (suc e) (λ j k m. h j (omega arith) (omega arith))) refl
+from-alike p q zero e h = refl
+from-alike p q (suc n) e h = rw (h e (omega arith) (omega arith), from-alike p q n (suc e) (λ j k m. h j (omega arith) (omega arith))) refl
 
 some-only : (c : Bool) (p : ℕ → Bool) (n e : ℕ) → someFrom (λ (e : ℕ). c && p e) n e ≡ (c && someFrom p n e)
 unfolding someFrom
@@ -92,8 +81,8 @@ some-only false p (suc n) e = some-only false p n (suc e)
 
 -- the shown events change if some download is listened for otherwise than before
 pub changes-at : (t u : Tables) (c : Bool) (p : ℕ → Bool) → ((e : ℕ) → 5 ≤ e → e < 18 → other t u e ≡ (c && p e)) → eventsChange t u ≡ (c && someFrom p 13 5)
-unfolding eventsChange shownEvents codes rises? below?
-changes-at t u c p h = differs-is t u 5 codes refl ∙ some-alike _ _ 13 5 h ∙ some-only c p 13 5
+unfolding eventsChange shownEvents codes
+changes-at t u c p h = differs-is t u 5 codes codes-rise ∙ from-alike _ _ 13 5 h ∙ some-only c p 13 5
 
 pub events-same : (t u : Tables) → ((e : ℕ) → 5 ≤ e → e < 18 → listened u e ≡ listened t e) → eventsChange t u ≡ false
 events-same t u h = changes-at t u false (λ e. true) (λ e g k. rw (h e g k, beq-self (listened t e)) refl)
@@ -123,14 +112,9 @@ pub registered-is : (t : Tables) (e : ℕ) (x : Applet) → 5 ≤ e → register
 unfolding registered
 registered-is t e x h = rw (ne-eqb e callControl (λ z. absurd (omega arith))) refl
 
-some-same : {A : Type 0} (p q : A → Bool) (l : List A) → ((x : A) → p x ≡ q x) → some? p l ≡ some? q l
-unfolding some?
-some-same p q [] h = refl
-some-same p q (x ∷ l) h = rw (h x, some-same p q l h) refl
-
 pub listened-is : (t : Tables) (e : ℕ) → 5 ≤ e → listened t e ≡ some? (listens e) (t .applets)
 unfolding listened
-listened-is t e h = some-same _ _ (t .applets) (λ x. ap (λ (b : Bool). x .selectable && b) (registered-is t e x h))
+listened-is t e h = some-alike _ _ (t .applets) (λ x. ap (λ (b : Bool). x .selectable && b) (registered-is t e x h))
 
 -- applet n is present, and it alone has its number
 module _ (t : Tables) (n : ℕ) (apart : count (hasNumber n) (t .applets) ≤ 1) (there : present t n ≡ true) where

@@ -1,6 +1,6 @@
 -- The due marks by a call's own tests are those by what is shown before and after.
 -- Assumes nothing.
-use mathlib.Core.Path.{_≡_, refl, sym, ap, _∙_}
+use mathlib.Core.Path.{_≡_, refl, sym, _∙_}
 use mathlib.Core.Bool.{Bool, true, false, _&&_, _||_}
 use Rattle.lists.specs.Tests.{if_then_else_}
 use Rattle.lists.proofs.Truth.{or-false}
@@ -8,7 +8,7 @@ use Rattle.rules.specs.declared.Desk as held
 use Rattle.rules.specs.Holds.{Tables, Desk}
 use Rattle.rules.specs.Held.{storedDesk}
 use Rattle.rules.specs.Desk.{menuChanges, eventsChange, marked}
-use Rattle.due.specs.Turns.{markedBy, dueDesk, markedDesk}
+use Rattle.due.specs.Turns.{markedBy, heldMarks, dueDesk, markedDesk}
 
 pub marked-by : (t u : Tables) (d : Desk) {menu events : Bool} → menuChanges t u ≡ menu → eventsChange t u ≡ events → marked t u d ≡ markedBy menu events d
 unfolding marked markedBy
@@ -57,7 +57,7 @@ turn-nothing menu events d h = rw h (unmarked-desk d)
 -- both marks, each by a call that says either
 pub dues : (d : held.Desk) (menu events : Bool) {x y : Bool} → x ≡ (d .«menu_due» || menu) → y ≡ (d .«events_due» || events)
     → _≡_ {A = held.Desk}
-    (record { title = d .title; «title_len» = d .«title_len»; profile = d .profile; session = d .session; outstanding = d .outstanding; «menu_due» = x; «events_due» = y })
+    (heldMarks d (d .outstanding) x y)
     (dueDesk d menu events)
 unfolding dueDesk
 dues d menu events p q = rw (p, q) refl

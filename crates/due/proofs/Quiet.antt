@@ -1,22 +1,20 @@
 -- Calls that leave the shown events: an install, a settled moment, call control, rows and timers.
 -- Assumes nothing.
-use Prim.Native.Nat.{ℕ, zero, suc, _≤_, _<_}
+use Prim.Native.Nat.{ℕ, zero, suc}
 use native.Mathlib.Omega.{arith}
 use mathlib.Core.Path.{_≡_, refl, sym, ap, _∙_}
-use mathlib.Core.Bool.{Bool, true, false, not, _&&_, _||_}
+use mathlib.Core.Bool.{Bool, true, false, _||_}
 use mathlib.Core.List.{List, [], _∷_, _++_, map}
 use lib.ListN.{getD, replicate}
 use lib.Seq.{getD-set-other}
-use lib.Dec.{eqb}
-use borrow.Author.Tests.{ne-eqb, eqb-true}
-use Rattle.lists.specs.Tests.{if_then_else_, _==_}
-use Rattle.lists.specs.Lists.{Every, some?, keep, count, change}
+use Rattle.lists.specs.Tests.{if_then_else_}
+use Rattle.lists.specs.Lists.{some?}
 use Rattle.rules.specs.declared.Request.{Request}
-use Rattle.rules.specs.Holds.{Applet, Row, Tables, withApplets, withRows, withControl, withTimers, withEvent, withOneMore}
+use Rattle.rules.specs.Holds.{Applet, Row, Tables, withApplets, withRows, withControl, withTimers, withEvent}
 use Rattle.rules.specs.Events.{handlerAvailable}
-use Rattle.rules.specs.Applets.{hasNumber, present, applet, newcomer, noEvents, registered, usedUp}
-use Rattle.rules.specs.Commands.{selectable, shownMenu, listened}
-use Rattle.rules.specs.Desk.{menuChanges, eventsChange}
+use Rattle.rules.specs.Applets.{newcomer, registered, usedUp}
+use Rattle.rules.specs.Commands.{listened}
+use Rattle.rules.specs.Desk.{eventsChange}
 use Rattle.listeners.specs.Listens.{listens}
 use Rattle.due.proofs.EventTurns.{events-same, listened-is}
 

@@ -24,18 +24,22 @@ eventTurns s events n l e b =
 unfoldable pub markedBy : (menu events : Bool) → Desk → Desk
 markedBy menu events d = if d .session then withMarks d (d .outstanding) (d .menuDue || menu) (d .eventsDue || events) else d
 
--- the same of the struct
-unfoldable pub dueDesk : held.Desk → (menu events : Bool) → held.Desk
-dueDesk d menu events =
+-- the desk as it is held, with other marks
+abbrev pub heldMarks : held.Desk → (outstanding menu events : Bool) → held.Desk
+heldMarks d outstanding menu events =
     record {
       title = d .title;
       «title_len» = d .«title_len»;
       profile = d .profile;
       session = d .session;
-      outstanding = d .outstanding;
-      «menu_due» = d .«menu_due» || menu;
-      «events_due» = d .«events_due» || events;
+      outstanding = outstanding;
+      «menu_due» = menu;
+      «events_due» = events;
     }
+
+-- what is marked due, of the struct
+unfoldable pub dueDesk : held.Desk → (menu events : Bool) → held.Desk
+dueDesk d menu events = heldMarks d (d .outstanding) (d .«menu_due» || menu) (d .«events_due» || events)
 
 unfoldable pub markedDesk : (menu events : Bool) → held.Desk → held.Desk
 markedDesk menu events d = if d .session then dueDesk d menu events else d

@@ -1,22 +1,21 @@
--- Laws of kinds: which places a value or a code names, what may be set, and that codes ascend.
+-- Laws of kinds: which places a value names, what may be set.
 -- Assumes nothing.
-use mathlib.Core.Path.{_≡_, refl, sym, ap, _∙_}
+use mathlib.Core.Path.{_≡_, sym, ap, _∙_}
 use mathlib.Core.Bool.{Bool, true, false}
-use mathlib.Core.List.{List, [], _∷_, map}
+use mathlib.Core.List.{List, [], _∷_}
 use Prim.Native.Nat.{ℕ, suc, _+_, _≤_, _<_}
 use native.Mathlib.Omega.{arith}
-use lib.IntN.{ℤ, pos}
+use lib.IntN.{ℤ}
 use lib.Signed.{ltZ}
 use mir.Syntax.{w16}
 use mir.Val.{SFits, ofZ, toZ}
 use mir.ValLaws.{toZ-ofZ}
 use lib.ListN.{length}
 use borrow.Author.Tests.{ne-eqb}
-use Rattle.lists.specs.Tests.{if_then_else_, _<?_}
-use Rattle.lists.specs.Lists.{every?}
+use Rattle.lists.specs.Tests.{if_then_else_}
 use Rattle.rules.specs.declared.Kind.{Kind}
 use Rattle.rules.specs.declared.Kind.the-variants.{Event, Issuer, Reserved, Unsupported}
-use Rattle.rules.specs.Events.{kindOf, kindOfCode, values, codes, equal?, named, minus, firstDownload, notSupported, notToSet}
+use Rattle.rules.specs.Events.{kindOf, values, equal?, named, minus, notSupported, notToSet}
 use Rattle.rules.specs.Refusals.{line, lowest}
 use Rattle.events.specs.Place.{placeOf}
 
@@ -57,23 +56,12 @@ named-among e (z ∷ l) v =
     either (Among e (suc (length l))) (equal? v z) (Event e) (named (suc e) l v) (omega arith, omega arith)
     (wider e (length l) (named (suc e) l v) (named-among (suc e) l v))
 
--- an event value names one of the 20 places, a download code one of 5 to 17
+-- an event value names one of the 20 places
 pub value-place : (v : ℤ) → Among 0 20 (kindOf v)
 unfolding kindOf values
 value-place v =
     either (Among 0 20) (ltZ v (minus 128)) Reserved _ tt
     (either (Among 0 20) (ltZ v (minus 64)) Issuer _ tt (named-among 0 values v))
-
-pub code-place : (c : ℕ) → Among 5 13 (kindOfCode c)
-unfolding kindOfCode codes
-code-place c = named-among firstDownload (map pos codes) (pos c)
-
--- the same, where the kind is known at an event
-pub value-event : (v : ℤ) (e : ℕ) → kindOf v ≡ Event e → e < 20
-value-event v e h = (rw h at (value-place v)) .1
-
-pub code-event : (c e : ℕ) → kindOfCode c ≡ Event e → (5 ≤ e) × (e < 18)
-code-event c e h = rw h at (code-place c)
 
 within : (k : Kind) → Among 0 20 k → placeOf k < 20
 unfolding placeOf
@@ -88,12 +76,3 @@ place-within v h e = rw (e, h) (within (kindOf v) (value-place v))
 -- a signed value is what its bits are read as
 pub kind-of-value : (v : ℤ) {k : Kind} → SFits w16 v → k ≡ kindOf (toZ w16 (ofZ w16 v)) → k ≡ kindOf v
 kind-of-value v f e = e ∙ ap kindOf (toZ-ofZ w16 v f)
-
--- the list is ascending
-unfoldable pub ascends? : List ℕ → Bool
-ascends? [] = true
-ascends? (n ∷ l) = if every? (λ k. n <? k) l then ascends? l else false
-
-pub codes-ascend : ascends? codes ≡ true
-unfolding ascends? codes every?
-codes-ascend = refl

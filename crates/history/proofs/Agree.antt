@@ -11,11 +11,11 @@ use Rattle.rules.specs.Holds.{Applet, Row, Tables, Desk, Model, document}
 use Rattle.rules.specs.Events.{callControl}
 use Rattle.rules.specs.Applets.{present, applet}
 use Rattle.rules.specs.Timers.{ownerOf}
-use Rattle.rules.specs.Calls.{Call, Answer}
+use Rattle.rules.specs.Calls.{Call}
 use Rattle.rules.specs.Refusals.{refusal}
 use Rattle.rules.specs.Step.{tablesAfter, answer}
 use Rattle.runs.specs.Sound.{Sound}
-use Rattle.history.specs.Histories.{Entry, History}
+use Rattle.history.specs.Histories.{did, History}
 use Rattle.history.specs.Named.{isPresent, isSelectable, priorityOf, isLater, isRegistered, ownsTimer, rowsNamed, inSession, isOutstanding}
 
 -- the number of an applet
@@ -43,10 +43,6 @@ pub record AgreeDesk (d : Desk) (h : History) : Type 0 where
 pub record Agree (m : Model) (h : History) : Type 0 where
   pub tables : AgreeTables (m .tables) h
   pub desk : AgreeDesk (m .desk) h
-
--- a call with its answer
-abbrev pub did : Call → Answer → Entry
-did c a = record { call = c; answer = a }
 
 -- what is known of every card that calls have left
 pub record Ground (m : Model) : Type 0 where

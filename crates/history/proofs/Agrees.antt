@@ -22,10 +22,10 @@ use Rattle.rules.specs.Beside.{freshBy, freshCard}
 use Rattle.rules.specs.Runs.{after}
 use Rattle.rules.proofs.Bounds.{after-keeps}
 use Rattle.runs.proofs.Run.{run-sound}
-use Rattle.history.specs.Histories.{History, accepted, stands}
+use Rattle.history.specs.Histories.{did, History, accepted, stands}
 use Rattle.history.specs.Named.{isPresent, isSelectable, isRegistered, ownsTimer, rowsNamed, rowsSince, inSession, isOutstanding}
 use Rattle.history.specs.Runs.{historyOf}
-use Rattle.history.proofs.Agree.{Agree, Ground, did}
+use Rattle.history.proofs.Agree.{Agree, Ground}
 use Rattle.history.proofs.Present.{presence-kept, selectability-kept, priorities-kept, order-kept}
 use Rattle.history.proofs.Registered.{events-kept, control-kept}
 use Rattle.history.proofs.Owners.{timers-kept}

@@ -1,6 +1,6 @@
 -- Whom an arrival calls: each selectable applet that the history registers for it, once, in order; and one list only.
 -- Assumes nothing.
-use Prim.Native.Nat.{ℕ, suc, _≤_, _<_}
+use Prim.Native.Nat.{ℕ, _≤_, _<_}
 use native.Mathlib.Omega.{arith}
 use mathlib.Core.Path.{_≡_, refl, sym, ap, _∙_}
 use mathlib.Core.Bool.{Bool, true, false, _&&_, _||_}
@@ -8,17 +8,18 @@ use mathlib.Core.List.{List, [], _∷_}
 use lib.ListN.{getD}
 use borrow.Author.Tests.{eqb-true, eq-eqb, ltb-true, ltb-false, lt-ltb}
 use Rattle.lists.specs.Tests.{if_then_else_, _==_, _<?_}
-use Rattle.lists.specs.Lists.{Every, Ordered, some?, keep, count, times}
+use Rattle.lists.specs.Lists.{Every, Ordered, some?, keep, times}
 use Rattle.lists.proofs.Decided.{clashing, both, or-either}
 use Rattle.lists.proofs.Every.{every-so, every-keep}
 use Rattle.lists.proofs.Counts.{count-keep, count-map}
-use Rattle.lists.proofs.Times.{count-insertBefore, count-one, some-alike}
+use Rattle.lists.proofs.Times.{count-one, some-alike}
 use Rattle.lists.proofs.Order.{every-insert, ordered-keep, ordered-imply, ordered-insert, ordered-of, ordered-from, one-list}
 use Rattle.rules.specs.Holds.{Applet, Row, Tables}
 use Rattle.rules.specs.Events.{callControl}
 use Rattle.rules.specs.Applets.{hasNumber, nobody, present, applet, registered, inOrder}
 use Rattle.rules.specs.Timers.{ownerOf}
 use Rattle.rules.specs.Arrivals.{Arrival, event, choice, help, expiry, nothing, wants, called}
+use Rattle.rules.proofs.Listed.{count-inOrder}
 use Rattle.runs.specs.Sound.{SoundTables}
 use Rattle.runs.proofs.Looked.{has-its-number, absent-nobody, number-from}
 use Rattle.history.specs.Histories.{History, stands}
@@ -28,12 +29,7 @@ use Rattle.history.specs.Called.{isChosen, isHelped, isNamed, isDue, isB
 use Rattle.history.proofs.Agree.{numberOf, AgreeTables}
 use Rattle.history.proofs.Present.{Ranked}
 
--- The order: what passes a test and what holds of each stay as they are.
-count-inOrder : (p : Applet → Bool) (l : List Applet) → count p (inOrder l) ≡ count p l
-unfolding inOrder count
-count-inOrder p [] = refl
-count-inOrder p (x ∷ l) = count-insertBefore p _ x (inOrder l) ∙ ap (λ (n : ℕ). if p x then suc n else n) (count-inOrder p l)
-
+-- what holds of each holds of each in order
 every-inOrder : (P : Applet → Type 0) (l : List Applet) → Every P l → Every P (inOrder l)
 unfolding inOrder Every
 every-inOrder P [] e = tt

@@ -12,10 +12,10 @@ use Rattle.rules.specs.Commands.{menuBytes, eventBytes, commandBytes, menuOf, s
 use Rattle.rules.specs.Desk.{marked, withProfile, withHandedOut, dueCommand, withMarks, menuChanges, eventsChange}
 use Rattle.rules.specs.Calls.{Call, admin, event, entry, timer, arrival, settled, proactive, systemCommand, envelope, profile, send, response}
 use Rattle.rules.specs.Step.{arrivalDesk, proactiveDesk, deskAfter, tablesAfter, changed, answer}
-use Rattle.history.specs.Histories.{History}
+use Rattle.history.specs.Histories.{did, History}
 use Rattle.history.specs.Named.{inSession, isOutstanding}
 use Rattle.history.proofs.Open.{reading}
-use Rattle.history.proofs.Agree.{AgreeDesk, did}
+use Rattle.history.proofs.Agree.{AgreeDesk}
 
 -- the due marks leave the session and what is outstanding
 marks-leave : {B : Type 0} (g : Desk → B) → ((d : Desk) (m e : Bool) → g (withMarks d (d .outstanding) m e) ≡ g d)

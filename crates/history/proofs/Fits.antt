@@ -3,16 +3,16 @@
 use Prim.Native.Nat.{ℕ, _+_, _*_, _≤_}
 use native.Mathlib.Omega.{arith}
 use mathlib.Core.Path.{_≡_, ap}
-use mathlib.Core.Bool.{Bool, true, false, _&&_}
+use mathlib.Core.Bool.{_&&_}
 use mathlib.Core.List.{List, [], _∷_}
 use lib.ListN.{length, length-append}
-use Rattle.lists.specs.Tests.{if_then_else_, _<?_}
 use Rattle.lists.specs.Lists.{Every, keep, gather, empty?}
 use Rattle.lists.proofs.Keep.{length-keep}
 use Rattle.lists.proofs.Every.{every-so, every-keep, every-map}
 use Rattle.lists.proofs.Mapped.{map-length}
 use Rattle.rules.specs.Holds.{Row, Bounds, Model, document}
 use Rattle.rules.specs.Commands.{Item, Menu, selectable, shownMenu, menuOf, lengthBytes, commandBytes, detailBytes, itemBytes, itemsBytes, menuValue, menuBytes}
+use Rattle.rules.proofs.Listed.{length-most}
 use Rattle.runs.specs.Sound.{Sound, SoundRow}
 
 abbrev Short : Item → Type 0
@@ -28,17 +28,9 @@ unfolding itemsBytes empty?
 items-fit [] e h = omega arith
 items-fit (i ∷ l) e h = omega (arith, gathered (i ∷ l) e)
 
-length-fits : (n : ℕ) → length (lengthBytes n) ≤ 2
-unfolding lengthBytes
-length-fits n = go (n <? 0x80)
-  where
-    go : (b : Bool) → length (if b then n ∷ [] else 0x81 ∷ n ∷ []) ≤ 2
-    go true = omega arith
-    go false = omega arith
-
 command-fits : (v : List ℕ) → length (commandBytes v) ≤ 3 + length v
 unfolding commandBytes
-command-fits v = omega (arith, length-append (lengthBytes (length v)) v, length-fits (length v))
+command-fits v = omega (arith, length-append (lengthBytes (length v)) v, length-most (length v))
 
 value-fits : (m : Menu) → length (menuValue m) ≤ 11 + length (m .title) + length (itemsBytes (m .items))
 unfolding menuValue detailBytes

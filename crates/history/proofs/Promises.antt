@@ -22,7 +22,7 @@ use Rattle.rules.specs.Timers.{ownerOf}
 use Rattle.rules.specs.Applets.{hasNumber, nobody, present}
 use Rattle.rules.specs.Applets as rules
 use Rattle.rules.specs.Envelopes.{envelopeOf, badEnvelope}
-use Rattle.rules.specs.Arrivals.{arrivalOf, called}
+use Rattle.rules.specs.Arrivals.{arrivalOf}
 use Rattle.rules.specs.Commands.{menuBytes, menuOf, shownMenu}
 use Rattle.rules.specs.Calls.{Call, event, askEvent, arrival, envelope, settled}
 use Rattle.rules.specs.Desk.{sameRow?}
@@ -35,13 +35,13 @@ use Rattle.runs.specs.Sound.{SoundTables}
 use Rattle.runs.proofs.Accepted.{accepted as none-holds}
 use Rattle.runs.proofs.Filled.{is-here}
 use Rattle.runs.proofs.Looked.{number-from, number-to}
-use Rattle.history.specs.Histories.{History, accepted}
+use Rattle.history.specs.Histories.{did, History, accepted}
 use Rattle.history.specs.Deeds.{sets, clears, deletes}
 use Rattle.history.specs.Named.{isPresent, isSelectable, isRegistered, ownsTimer, hasOneShot, usesUp, ownsControl, oneToEight, timerOwner, controlOwner, rowsNamed, inSession, isOutstanding}
 use Rattle.history.specs.Called.{isChosen, isHelped, isNamed, isDue, Calls, arrivalIn}
 use Rattle.history.specs.Runs.{historyOf}
 use Rattle.history.proofs.Open.{reading}
-use Rattle.history.proofs.Agree.{numberOf, Agree, did}
+use Rattle.history.proofs.Agree.{numberOf, Agree}
 use Rattle.history.proofs.Agrees.{accepted-more, accepted-same, ground, agrees}
 use Rattle.history.proofs.Owners.{within, timer-within}
 use Rattle.history.proofs.RowsNamed.{same-row}

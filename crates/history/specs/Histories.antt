@@ -10,6 +10,9 @@ pub record Entry : Type 0 where
   pub call : Call
   pub answer : Answer
 
+abbrev pub did : Call → Answer → Entry
+did c a = record { call = c; answer = a }
+
 abbrev pub History : Type 0
 History = List Entry
 

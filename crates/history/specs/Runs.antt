@@ -5,9 +5,9 @@ use Rattle.rules.specs.Holds.{document}
 use Rattle.rules.specs.Calls.{Call}
 use Rattle.rules.specs.Step.{step}
 use Rattle.rules.specs.Runs.{after}
-use Rattle.history.specs.Histories.{History}
+use Rattle.history.specs.Histories.{did, History}
 
 -- the history of calls on a fresh card with this title; the newest call stands first
 unfoldable pub historyOf : (title : List ℕ) → List Call → History
 historyOf title [] = []
-historyOf title (c ∷ calls) = record { call = c; answer = step (after document title calls) c .answer } ∷ historyOf title calls
+historyOf title (c ∷ calls) = did c (step (after document title calls) c .answer) ∷ historyOf title calls

@@ -2,7 +2,7 @@
 use Prim.Native.Nat.{ℕ}
 use mathlib.Core.Bool.{Bool}
 use mathlib.Core.Path.{_≡_}
-use mathlib.Core.List.{List, []}
+use mathlib.Core.List.{List}
 use Rattle.lists.specs.Tests.{_==_}
 use Rattle.lists.specs.Lists.{gather}
 use Rattle.rules.specs.declared.Pair.{Pair}

@@ -1,8 +1,11 @@
 // Install: the refusals 2 to 6 for a raw request, and the table with the newcomer at its end.
 use rules::Applet;
 use rules::Applets;
+use rules::Bank;
 use rules::Pair;
 use rules::Request;
+use rules::Row;
+use rules::Rows;
 ghost use Prim.Native.Nat.{_≤_, _<_};
 ghost use mathlib.Core.Path.{_≡_};
 ghost use mathlib.Core.Bool.{not, _&&_, _||_};
@@ -17,18 +20,29 @@ ghost use Rattle.rules.specs.Held.{storedApplet, viewApplets, storedApplets, Ti
 ghost use Rattle.install.specs.Refuses.{RefusesInstall, taken, asksFor};
 ghost use Rattle.install.specs.Joins.{withNewcomer};
 
+// The last applet number; the most that a request may ask for; the most that all may.
+const LAST_APPLET: u8 = Applets::MOST as u8;
+
+const MOST_TIMERS: u8 = Bank::TIMERS as u8;
+
+const MOST_ENTRIES: u8 = Applet::ENTRIES as u8;
+
+const MOST_TEXT: u8 = Row::TEXT as u8;
+
+const MOST_ROWS: u32 = Rows::MOST as u32;
+
 // How many pairs are looked at: as many as the entry limit, of the four that there are.
 fn pair_count(request: Request) -> u8
     ensures { λ r. ⌜ (r ≡ length (lookedAt request)) × (r ≤ 4) ⌝ }
 {
-    if 4 < request.entries {
-        return 4;
+    if MOST_ENTRIES < request.entries {
+        return MOST_ENTRIES;
     }
     request.entries
 }
 
 // The pairs that are looked at, with blanks behind.
-fn looked_at(request: Request) -> [Pair; 4]
+fn looked_at(request: Request) -> [Pair; Applet::ENTRIES]
     ensures { λ r. ⌜ r ≡ padded 4 noPair (lookedAt request) ⌝ }
 {
     let all = request.pairs;
@@ -36,7 +50,7 @@ fn looked_at(request: Request) -> [Pair; 4]
     let mut pairs = [Pair {
         position: 0,
         identifier: 0,
-    }; 4];
+    }; Applet::ENTRIES];
     let mut i = 0;
     while i < n {
         pairs[i] = all[i];
@@ -60,7 +74,7 @@ fn new_applet(number: u8, request: Request) -> Applet
         made: 0,
         selectable: true,
         pairs,
-        events: [false; 20],
+        events: [false; Applet::EVENTS],
     }
 }
 
@@ -81,11 +95,11 @@ pub fn installed(s: Applets, number: u8, request: Request) -> Applets
 }
 
 // Whether one of the pairs from an index on requests an identifier.
-fn asks(pairs: [Pair; 4], from: usize, identifier: u8) -> bool
+fn asks(pairs: [Pair; Applet::ENTRIES], from: usize, identifier: u8) -> bool
     ensures { λ r. ⌜ r ≡ some? (asksFor identifier) (drop from pairs) ⌝ }
 {
     let mut i = from;
-    while i < 4 {
+    while i < Applet::ENTRIES {
         let p = pairs[i];
         if p.identifier == identifier {
             return true;
@@ -115,7 +129,7 @@ fn is_taken(s: Applets, identifier: u8) -> bool
 }
 
 // Whether an identifier is not zero, and requested by the pairs from an index on or by an applet present.
-fn is_repeated(s: Applets, pairs: [Pair; 4], from: usize, identifier: u8) -> bool
+fn is_repeated(s: Applets, pairs: [Pair; Applet::ENTRIES], from: usize, identifier: u8) -> bool
     requires { ⌜ TidyApplets s ⌝ }
     ensures { λ r. ⌜ r ≡ (not (identifier == 0) && (in? identifier (requested (drop from pairs)) || in? identifier (taken (viewApplets s)))) ⌝ }
 {
@@ -130,12 +144,12 @@ fn is_repeated(s: Applets, pairs: [Pair; 4], from: usize, identifier: u8) -> boo
 }
 
 // Refusal 6: a non-zero identifier is requested twice, here or by an applet present.
-fn clashes(s: Applets, pairs: [Pair; 4]) -> bool
+fn clashes(s: Applets, pairs: [Pair; Applet::ENTRIES]) -> bool
     requires { ⌜ TidyApplets s ⌝ }
     ensures { λ r. ⌜ r ≡ repeats? (requested pairs) (taken (viewApplets s)) ⌝ }
 {
     let mut i = 0;
-    while i < 4 {
+    while i < Applet::ENTRIES {
         let p = pairs[i];
         let is = is_repeated(s, pairs, i + 1, p.identifier);
         if is {
@@ -147,11 +161,11 @@ fn clashes(s: Applets, pairs: [Pair; 4]) -> bool
 }
 
 // Whether one of the pairs requests an identifier over 127.
-fn is_over(pairs: [Pair; 4]) -> bool
+fn is_over(pairs: [Pair; Applet::ENTRIES]) -> bool
     ensures { λ r. ⌜ r ≡ some? (λ (p : pair.Pair). 127 <? p .identifier) pairs ⌝ }
 {
     let mut i = 0;
-    while i < 4 {
+    while i < Applet::ENTRIES {
         let p = pairs[i];
         if 127 < p.identifier {
             return true;
@@ -168,13 +182,13 @@ fn is_out_of_range(request: Request) -> bool
     if request.priority == 0 {
         return true;
     }
-    if 8 < request.timers {
+    if MOST_TIMERS < request.timers {
         return true;
     }
-    if 4 < request.entries {
+    if MOST_ENTRIES < request.entries {
         return true;
     }
-    if 15 < request.text {
+    if MOST_TEXT < request.text {
         return true;
     }
     let pairs = looked_at(request);
@@ -213,7 +227,7 @@ pub fn install_refusal(s: Applets, number: u8, request: Request) -> u8
     if number == 0 {
         return 2;
     }
-    if 8 < number {
+    if LAST_APPLET < number {
         return 2;
     }
     let looked = registry::look(s, number);
@@ -226,7 +240,7 @@ pub fn install_refusal(s: Applets, number: u8, request: Request) -> u8
     }
     let present = total(s);
     let more = wide(request.entries);
-    if 12 < present + more {
+    if MOST_ROWS < present + more {
         return 5;
     }
     let pairs = looked_at(request);

@@ -4,16 +4,15 @@ use Prim.Native.Nat.{ℕ, suc, _+_, _-_, _≤_, _<_}
 use native.Mathlib.Omega.{arith}
 use native.Mathlib.Numerals.{add-one}
 use mathlib.Core.Path.{_≡_, refl, sym, ap, _∙_}
-use mathlib.Core.Bool.{Bool, true, false, not, _&&_, _||_}
-use mathlib.Core.List.{List, [], _∷_}
-use lib.ListN.{length, getD}
+use mathlib.Core.Bool.{Bool, true, false, _&&_, _||_}
+use lib.ListN.{getD}
 use borrow.Author.Tests.{ne-eqb}
 use Rattle.lists.specs.Tests.{if_then_else_, _==_}
-use Rattle.lists.specs.Lists.{some?, empty?}
+use Rattle.lists.specs.Lists.{some?}
 use Rattle.rules.specs.Holds.{Applet, Tables}
-use Rattle.rules.specs.Events.{callControl, codes, firstDownload}
+use Rattle.rules.specs.Events.{callControl, firstDownload}
 use Rattle.rules.specs.Applets.{registered}
-use Rattle.rules.specs.Commands.{listened, shownFrom, shownEvents}
+use Rattle.rules.specs.Commands.{listened}
 use Rattle.listeners.specs.Listens.{listens, someFrom, anyCode}
 
 -- the loop has passed the places before e
@@ -47,17 +46,3 @@ pub listened-is : (t : Tables) (e : ℕ) → (e ≡ callControl → ⊥) → som
 unfolding listened registered
 listened-is t e h =
     sym (ap (λ (b : Bool). some? (λ (x : Applet). x .selectable && (if b then t .control == x .number else getD (x .events) e false)) (t .applets)) (ne-eqb e callControl h))
-
--- something is shown if some download code is listened to
-shown-some : (t : Tables) (e : ℕ) (l : List ℕ) → not (empty? (shownFrom t e l)) ≡ someFrom (listened t) (length l) e
-unfolding empty? shownFrom someFrom
-shown-some t e [] = refl
-shown-some t e (c ∷ l) = go (listened t e) (shown-some t (suc e) l)
-  where
-    go : (b : Bool) {x : Bool} → not (empty? (shownFrom t (suc e) l)) ≡ x → not (empty? (if b then c ∷ shownFrom t (suc e) l else shownFrom t (suc e) l)) ≡ (b || x)
-    go true h = refl
-    go false h = h
-
-pub shown-any : (t : Tables) → not (empty? (shownEvents t)) ≡ anyCode (listened t)
-unfolding shownEvents codes
-shown-any t = shown-some t firstDownload codes

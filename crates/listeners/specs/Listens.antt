@@ -2,10 +2,10 @@
 use Prim.Native.Nat.{ℕ, zero, suc}
 use mathlib.Core.Bool.{Bool, false, not, _&&_, _||_}
 use mathlib.Core.List.{List}
-use lib.ListN.{length, getD}
+use lib.ListN.{getD}
 use Rattle.lists.specs.Lists.{some?}
 use Rattle.rules.specs.Holds.{Applet}
-use Rattle.rules.specs.Events.{firstDownload, codes}
+use Rattle.rules.specs.Events.{firstDownload}
 use Rattle.rules.specs.Applets.{hasNumber}
 
 -- it is selectable and registered for the event

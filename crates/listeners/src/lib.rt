@@ -2,7 +2,6 @@
 use rules::Applet;
 use rules::Applets;
 use rules::Kind;
-ghost use Prim.Native.Nat.{ℕ};
 ghost use mathlib.Core.Path.{_≡_};
 ghost use mathlib.Core.Bool.{false, not, _&&_};
 ghost use lib.ListN.{getD};
@@ -71,21 +70,6 @@ pub fn others_listen(s: Applets, number: u8, event: u8) -> bool
     ensures { λ r. ⌜ r ≡ some? (otherListens number event) (viewApplets s) ⌝ }
 {
     some_listen(s, true, number, event)
-}
-
-// Whether an applet is registered for some download code.
-pub fn has_code(applet: Applet) -> bool
-    ensures { λ r. ⌜ r ≡ anyCode (λ (e : ℕ). getD (applet .events) e false) ⌝ }
-{
-    let mut e: u8 = Kind::MT_CALL;
-    while e <= Kind::BROWSING_STATUS {
-        let is = is_registered(applet, e);
-        if is {
-            return true;
-        }
-        e += 1;
-    }
-    false
 }
 
 // Whether an applet is registered for an event that no selectable applet with another number is registered for.

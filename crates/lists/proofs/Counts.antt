@@ -1,9 +1,9 @@
 -- Laws of `count`: of lists joined, thinned, pictured and stored to; and that as many apart in 1..n are no more than n.
 -- Assumes nothing.
-use Prim.Native.Nat.{ℕ, zero, suc, _+_, _≤_, _<_}
+use Prim.Native.Nat.{ℕ, zero, suc, _+_, _≤_}
 use native.Mathlib.Omega.{arith}
 use mathlib.Core.Path.{_≡_, refl, sym, ap, _∙_}
-use mathlib.Core.Bool.{Bool, true, false, not, _&&_, _||_}
+use mathlib.Core.Bool.{Bool, true, false, _&&_, _||_}
 use mathlib.Core.List.{List, [], _∷_, _++_, map}
 use lib.ListN.{length, set, replicate, length-append}
 use borrow.Author.Tests.{eqb-true, leb-true, leb-false, le-leb}
@@ -200,14 +200,3 @@ module _ {A : Type 0} (p : A → Bool) where
       go : (b : Bool) → (if b then suc (count p l) else count p l) ≤ 0 → (count p l ≤ 0 → some? p l ≡ false) → (b || some? p l) ≡ false
       go true k r = absurd (omega arith)
       go false k r = r k
-
-  -- where one passes, to keep the others makes the list shorter
-  pub keep-less : (l : List A) → some? p l ≡ true → length (keep (λ (x : A). not (p x)) l) < length l
-  unfolding keep some?
-  keep-less [] e = let z : _≡_ {A = ℕ} 0 1 = cc in absurd (omega arith)
-  keep-less (x ∷ l) e = go (p x) e (λ h. keep-less l h)
-    where
-      go : (b : Bool) → (b || some? p l) ≡ true → (some? p l ≡ true → length (keep (λ (x : A). not (p x)) l) < length l) → length (if not b then x ∷ keep (λ (x : A). not (p x)) l else keep (λ (x : A). not (p x)) l) < suc (length l)
-      go true h r = omega (arith, length-keep (λ (x : A). not (p x)) l)
-      go false h r = omega (arith, r h)
-      -- a test that says the same

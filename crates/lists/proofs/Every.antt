@@ -1,13 +1,14 @@
 -- Laws of `Every`: what holds of each element still does after the list was joined, thinned, changed or stored to.
 -- Assumes nothing.
-use Prim.Native.Nat.{ℕ, zero, suc}
+use Prim.Native.Nat.{ℕ, zero, suc, _<_}
 use mathlib.Core.Path.{_≡_, refl}
-use mathlib.Core.Bool.{Bool, true, false, _||_}
+use mathlib.Core.Bool.{Bool, true, false, _&&_, _||_}
 use mathlib.Core.List.{List, [], _∷_, _++_, map}
 use lib.ListN.{take, drop, getD, set, replicate}
-use Rattle.lists.specs.Tests.{if_then_else_}
-use Rattle.lists.specs.Lists.{Every, some?, keep, first, change, insertAt}
-use Rattle.lists.proofs.Decided.{clashing, neither}
+use borrow.Author.Tests.{ltb-true}
+use Rattle.lists.specs.Tests.{if_then_else_, _<?_}
+use Rattle.lists.specs.Lists.{every?, Every, some?, keep, first, change, insertAt}
+use Rattle.lists.proofs.Decided.{clashing, neither, both}
 
 module _ {A : Type 0} (P : A → Type 0) where
   pub every-so : (Q : A → Type 0) → ((x : A) → P x → Q x) → (l : List A) → Every P l → Every Q l
@@ -100,8 +101,26 @@ module _ {A : Type 0} (P : A → Type 0) where
         go true q r = e .0
         go false q r = r q
 
--- where none passes, each fails
+-- where all pass, each does; where none passes, each fails
+pub every-passes : {A : Type 0} (p : A → Bool) (l : List A) → every? p l ≡ true → Every (λ x. p x ≡ true) l
+unfolding every? Every
+every-passes p [] e = tt
+every-passes p (x ∷ l) e = let h = both (p x) (every? p l) e in (h .0, every-passes p l (h .1))
+
 pub every-fails : {A : Type 0} (p : A → Bool) (l : List A) → some? p l ≡ false → Every (λ x. p x ≡ false) l
 unfolding Every some?
 every-fails p [] h = tt
 every-fails p (x ∷ l) h = (neither (p x) (some? p l) h .0, every-fails p l (neither (p x) (some? p l) h .1))
+
+-- each number is smaller than all behind it
+unfoldable pub rises? : List ℕ → Bool
+rises? [] = true
+rises? (n ∷ l) = every? (λ k. n <? k) l && rises? l
+
+pub rises-head : (n : ℕ) (l : List ℕ) → rises? (n ∷ l) ≡ true → Every (λ k. n < k) l
+unfolding rises?
+rises-head n l e = every-so (λ k. (n <? k) ≡ true) (λ k. n < k) (λ k h. ltb-true n k h) l (every-passes (λ k. n <? k) l (both (every? (λ k. n <? k) l) (rises? l) e .0))
+
+pub rises-tail : (n : ℕ) (l : List ℕ) → rises? (n ∷ l) ≡ true → rises? l ≡ true
+unfolding rises?
+rises-tail n l e = both (every? (λ k. n <? k) l) (rises? l) e .1

@@ -88,29 +88,6 @@ module _ {A : Type 0} (key : A → ℕ) (d : A) where
       go false true false e f g i = rw f refl
       go false false c e f g i = rw (f, i, g) refl
 
-  -- what is found has the number
-  pub first-key : (n : ℕ) (l : List A) → some? (λ y. key y == n) l ≡ true → key (first (λ y. key y == n) d l) ≡ n
-  unfolding first some?
-  first-key n [] h = clashing h refl
-  first-key n (y ∷ l) h = go (key y == n) refl h (λ r. first-key n l r)
-    where
-      go : (b : Bool) → (key y == n) ≡ b → (b || some? (λ y. key y == n) l) ≡ true
-          → (some? (λ y. key y == n) l ≡ true → key (first (λ y. key y == n) d l) ≡ n)
-          → key (if b then y else first (λ y. key y == n) d l) ≡ n
-      go true e q r = eqb-true (key y) n e
-      go false e q r = r q
-
-  pub first-none : (n : ℕ) (l : List A) → some? (λ y. key y == n) l ≡ false → first (λ y. key y == n) d l ≡ d
-  unfolding first some?
-  first-none n [] h = refl
-  first-none n (y ∷ l) h = go (key y == n) h (λ r. first-none n l r)
-    where
-      go : (b : Bool) → (b || some? (λ y. key y == n) l) ≡ false
-          → (some? (λ y. key y == n) l ≡ false → first (λ y. key y == n) d l ≡ d)
-          → (if b then y else first (λ y. key y == n) d l) ≡ d
-      go true q r = clashing refl q
-      go false q r = r q
-
   -- a function that leaves the key
   module _ (f : A → A) (same : (x : A) → key (f x) ≡ key x) where
     pub keys-map : (l : List A) → map key (map f l) ≡ map key l

@@ -47,10 +47,6 @@ pub or-true : (b : Bool) → (b || true) ≡ true
 or-true true = refl
 or-true false = refl
 
-pub or-assoc : (a b c : Bool) → (a || (b || c)) ≡ (a || b || c)
-or-assoc true b c = refl
-or-assoc false b c = refl
-
 pub not-not : (b : Bool) → b ≡ not (not b)
 not-not true = refl
 not-not false = refl

@@ -4,7 +4,7 @@ use Prim.Native.Nat.{ℕ, zero, suc, _+_, _-_, _≤_, _<_}
 use native.Mathlib.Omega.{arith}
 use native.Mathlib.Numerals.{add-one}
 use mathlib.Core.Path.{_≡_, refl, sym, ap, _∙_}
-use mathlib.Core.List.{List, [], _∷_, _++_, append-assoc}
+use mathlib.Core.List.{List, [], _++_, append-assoc}
 use lib.ListN.{length, take, drop, getD, replicate, length-append, take-append-drop, set, length-set}
 use lib.Seq.{length-take-le, take-at, drop-at, paste, take-length, drop-drop, paste-zero, paste-suc}
 use Rattle.lists.specs.Lists.{padded}

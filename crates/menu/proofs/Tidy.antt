@@ -1,23 +1,23 @@
 -- What follows of rows in their one form, and when a table is one.
 -- Assumes nothing.
-use Prim.Native.Nat.{ℕ, _+_, _-_, _≤_, _<_}
+use Prim.Native.Nat.{ℕ, _+_, _≤_, _<_}
 use native.Mathlib.Omega.{arith}
 use mathlib.Core.Path.{_≡_, refl, sym, ap, _∙_}
-use mathlib.Core.Bool.{Bool, true, false, not}
+use mathlib.Core.Bool.{Bool, not}
 use mathlib.Core.List.{List, map}
 use lib.ListN.{length, take, set, length-take}
-use borrow.Author.Tests.{ltb-false, lt-ltb, le-ltb}
-use Rattle.lists.specs.Tests.{if_then_else_, _==_, _<?_}
-use Rattle.lists.specs.Lists.{padded, indexOf, keep, some?, insertAt, change}
+use borrow.Author.Tests.{lt-ltb, le-ltb}
+use Rattle.lists.specs.Tests.{_==_}
+use Rattle.lists.specs.Lists.{padded, indexOf, keep, some?, insertAt}
 use Rattle.lists.proofs.Padded.{length-padded, take-padded, Open, open-start, open-put, length-insertAt}
-use Rattle.lists.proofs.Keep.{Kept, length-keep}
-use Rattle.lists.proofs.Search.{length-change}
+use Rattle.lists.proofs.Keep.{Kept}
 use Rattle.lists.proofs.Mapped.{map-length, map-indexOf, map-keep, map-some, map-insertAt}
 use Rattle.rules.specs.declared.Row as held
 use Rattle.rules.specs.declared.Rows.{Rows}
 use Rattle.rules.specs.Holds.{Row}
-use Rattle.rules.specs.Rows.{hasIdentifier, place, withoutRows, withText, withEnabled}
+use Rattle.rules.specs.Rows.{hasIdentifier, place, withoutRows}
 use Rattle.rules.specs.Held.{viewRow, storedRow, noRow, viewRows, storedRows, TidyRows}
+use Rattle.rules.proofs.Listed.{place-le}
 use Rattle.rules.proofs.Held.{rows-back}
 use Rattle.menu.specs.Table.{withRow, TidyRow}
 
@@ -86,15 +86,6 @@ unfolding viewRow
 named-viewed s i = index-viewed s (hasIdentifier i)
 
 -- An insertion: the array opens from the end to the place, and the new row is put there.
-pub place-le : (p n : ℕ) → place p n ≤ n
-unfolding place
-place-le p n = go (p == 0) (n <? p) refl
-  where
-    go : (a b : Bool) → (n <? p) ≡ b → (if a then n else if b then n else p - 1) ≤ n
-    go true b e = omega arith
-    go false true e = omega arith
-    go false false e = omega (arith, ltb-false n p e)
-
 pub opens : (s : Rows) → TidyRows s → s .count < 12 → Open 12 blank (map storedRow (viewRows s)) (s .count) (s .at)
 opens s t f =
     let e = held-count s t in
@@ -128,27 +119,3 @@ keeps s n k at t o =
     let l = viewRows s in
     let a : keep (notOf n) (take (s .count) (s .at)) ≡ map storedRow (withoutRows n l) = ap (keep (notOf n)) (held-is s t) ∙ sym (map-keep storedRow (notOf n) l) in
     stands (withoutRows n l) (o .form ∙ ap (padded 12 blank) a) (o .many ∙ ap length a ∙ map-length storedRow (withoutRows n l))
-
--- EVERY RESULT STANDS IN ITS ONE FORM AGAIN.
-module _ (s : Rows) (t : TidyRows s) where
-  -- a list of no more rows
-  fewer : (l : List Row) → length l ≤ length (viewRows s) → TidyRows (storedRows l)
-  fewer l h = tidy-stored l (omega (arith, count-is s t, t .few))
-
-  pub tidy-inserted : (k : ℕ) (new : Row) → k ≤ length (viewRows s) → s .count < 12 → TidyRows (storedRows (insertAt k new (viewRows s)))
-  tidy-inserted k x h f = tidy-stored _ (omega (arith, count-is s t, length-insertAt k x (viewRows s) h))
-
-  pub tidy-without : (owner : ℕ) → TidyRows (storedRows (withoutRows owner (viewRows s)))
-  unfolding withoutRows
-  tidy-without n = fewer _ (length-keep _ (viewRows s))
-
-  tidy-change : (p : Row → Bool) (f : Row → Row) → TidyRows (storedRows (change p f (viewRows s)))
-  tidy-change p f = fewer (change p f (viewRows s)) (omega (arith, length-change p f (viewRows s)))
-
-  pub tidy-text : (identifier : ℕ) (help : Bool) (text : List ℕ) → TidyRows (storedRows (withText identifier help text (viewRows s)))
-  unfolding withText
-  tidy-text i help text = tidy-change _ _
-
-  pub tidy-enabled : (identifier : ℕ) (enabled : Bool) → TidyRows (storedRows (withEnabled identifier enabled (viewRows s)))
-  unfolding withEnabled
-  tidy-enabled i b = tidy-change _ _

@@ -1,6 +1,6 @@
 -- The desk after a profile and after handing out, by the rules.
 -- Assumes nothing.
-use Prim.Native.Nat.{ℕ, _≤_}
+use Prim.Native.Nat.{ℕ}
 use mathlib.Core.Path.{_≡_, refl, sym, ap, _∙_}
 use mathlib.Core.Bool.{Bool, true, false, not}
 use mathlib.Core.List.{List}
@@ -9,10 +9,11 @@ use Rattle.lists.specs.Tests.{_==_}
 use Rattle.lists.specs.Lists.{padded}
 use Rattle.rules.specs.declared.Rows.{Rows}
 use Rattle.rules.specs.declared.Desk as held
-use Rattle.rules.specs.Holds.{Applet, Row, Tables, Desk}
+use Rattle.rules.specs.Holds.{Applet, Row, Desk}
 use Rattle.rules.specs.Held.{storedRows, storedDesk}
 use Rattle.rules.specs.Commands.{shownMenu, shownEvents}
 use Rattle.rules.specs.Desk.{withProfile, withHandedOut}
+use Rattle.due.specs.Turns.{heldMarks}
 use Rattle.display.specs.declared.Codes.{Codes}
 use Rattle.display.specs.Shows.{Able, rowsBy, ShowsCodes}
 use Rattle.display.proofs.Promise.{rows-shown, counted}
@@ -44,16 +45,7 @@ begins applets rows bytes k {able} {shown} {codes} a s o f t d e g h i =
 
 module _ (k : held.Desk) where
   abbrev handed : (menu events : Bool) → held.Desk → held.Desk
-  handed menu events d =
-      record {
-        title = d .title;
-        «title_len» = d .«title_len»;
-        profile = d .profile;
-        session = d .session;
-        outstanding = true;
-        «menu_due» = menu;
-        «events_due» = events;
-      }
+  handed menu events d = heldMarks d true menu events
 
   pub hands-menu : k .«menu_due» ≡ true → HandsOut k (handed false (k .«events_due») k)
   unfolding storedDesk withHandedOut

@@ -32,7 +32,7 @@ pub fn refused(number: u8) -> Called
 {
     Called {
         refusal: number,
-        at: [0; 8],
+        at: [0; Applets::MOST],
         count: 0,
         marks: Marks {
             proactive: false,
@@ -97,7 +97,7 @@ fn nobody() -> Callees
     ensures { λ r. ⌜ r ≡ listed [] ⌝ }
 {
     Callees {
-        at: [0; 8],
+        at: [0; Applets::MOST],
         count: 0,
     }
 }

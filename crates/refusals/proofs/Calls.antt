@@ -16,7 +16,7 @@ use Rattle.rules.specs.Holds.{Tables, Model}
 use Rattle.rules.specs.Held.{viewApplet, storedApplet}
 use Rattle.rules.specs.Events.{kindOf, isControl, notSupported, notToSet}
 use Rattle.rules.specs.Envelopes.{commandOf}
-use Rattle.rules.specs.Applets.{present, applet, ownedByAnother}
+use Rattle.rules.specs.Applets.{applet, ownedByAnother}
 use Rattle.rules.specs.Rows.{allMade, badText, notItsRow}
 use Rattle.rules.specs.Calls.{EntryCall, entry, newEntry, changeEntry, enableEntry, disableEntry, event, setEvent, clearEvent, askEvent, proactive, send}
 use Rattle.rules.specs.Refusals.{Line, line, lowest, lines, absent, entryLines, eventLines, proactiveLines, refusal}

@@ -1,3 +1,2 @@
 -- Laws of the table of applets.
 pub mod Table
-pub mod Tidy

@@ -19,15 +19,9 @@ use Rattle.rules.specs.declared.Applets.{Applets}
 use Rattle.rules.specs.Holds.{Applet, Tables, withOneMore}
 use Rattle.rules.specs.Applets.{hasNumber, nobody, present, applet}
 use Rattle.rules.specs.Held.{storedApplet, viewApplets, storedApplets, TidyApplets}
-use Rattle.rules.proofs.Held.{applets-back}
 use Rattle.registry.specs.declared.Looked.{Looked}
 use Rattle.registry.specs.Looks.{lookedUp}
 use Rattle.registry.specs.Counts.{countedOn}
-
--- a stored table is in its one form
-pub tidy-stored : (l : List Applet) → length l ≤ 8 → TidyApplets (storedApplets l)
-unfolding storedApplets
-tidy-stored l h = record { few = h; form = ap storedApplets (sym (applets-back l)) }
 
 abbrev pub blank : held.Applet
 blank = storedApplet nobody

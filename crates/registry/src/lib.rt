@@ -1,6 +1,7 @@
 // The applets present, in order of installation and by value: the look-up by number, and the changes of the table.
 use rules::Applet;
 use rules::Applets;
+use rules::Kind;
 use rules::Pair;
 ghost use Prim.Native.Nat.{ℕ};
 ghost use mathlib.Core.Path.{_≡_};
@@ -13,6 +14,9 @@ ghost use Rattle.rules.specs.Applets.{hasNumber, nobody, usedUp};
 ghost use Rattle.rules.specs.Held.{storedApplet, viewApplets, storedApplets, TidyApplets};
 ghost use Rattle.registry.specs.Looks.{lookedUp};
 ghost use Rattle.registry.specs.Counts.{countedOn};
+
+// The place of the one-shot, proactive handler available.
+const ONE_SHOT: usize = Kind::HANDLER_AVAILABLE as usize;
 
 // An applet by its number: whether it is there, where it stands, and what it is.
 pub struct Looked {
@@ -36,8 +40,8 @@ fn no_applet() -> Applet
         pairs: [Pair {
             position: 0,
             identifier: 0,
-        }; 4],
-        events: [false; 20],
+        }; Applet::ENTRIES],
+        events: [false; Applet::EVENTS],
     }
 }
 
@@ -168,7 +172,7 @@ pub fn without(s: Applets, number: u8) -> Applets
 {
     let n = s.count as usize;
     let blank = no_applet();
-    let mut at = [blank; 8];
+    let mut at = [blank; Applets::MOST];
     let mut k: usize = 0;
     let mut i = 0;
     while i < n {
@@ -188,7 +192,7 @@ fn used_up(a: Applet) -> Applet
 {
     if a.selectable {
         let mut r = a;
-        r.events[19] = false;
+        r.events[ONE_SHOT] = false;
         return r;
     }
     a
@@ -201,7 +205,7 @@ pub fn settled(s: Applets) -> Applets
 {
     let n = s.count as usize;
     let blank = no_applet();
-    let mut at = [blank; 8];
+    let mut at = [blank; Applets::MOST];
     let mut i = 0;
     while i < n {
         let a = s.at[i];

@@ -1,23 +1,22 @@
--- The promises of the menu list. A new row stands beside all that were there, whatever the texts, and no call makes two rows of one
--- identifier. Assumes nothing.
+-- The promises of the menu list. A new row stands beside all that were there, whatever the texts; a free identifier is the smallest.
+-- Assumes nothing.
 use Prim.Native.Nat.{ℕ, _+_, _≤_, _<_}
 use native.Mathlib.Omega.{arith}
-use mathlib.Core.Path.{_≡_, refl, sym, ap, _∙_}
+use mathlib.Core.Path.{_≡_}
 use mathlib.Core.Bool.{Bool, true, false}
-use mathlib.Core.List.{List, []}
+use mathlib.Core.List.{List}
 use lib.ListN.{length}
-use borrow.Author.Tests.{eqb-true, eqb-false}
-use Rattle.lists.specs.Tests.{if_then_else_, _==_}
-use Rattle.lists.specs.Lists.{insertAt, count, keep, change}
+use Rattle.lists.specs.Tests.{if_then_else_}
+use Rattle.lists.specs.Lists.{insertAt, count}
 use Rattle.lists.proofs.Padded.{length-insertAt}
 use Rattle.lists.proofs.Inserted.{inserted-there, inserted-others}
-use Rattle.lists.proofs.Counts.{count-insertAt, count-kept, count-change, count-missed}
+use Rattle.lists.proofs.Counts.{count-insertAt}
 use Rattle.rules.specs.Holds.{Applet, Row}
-use Rattle.rules.specs.Rows.{hasIdentifier, place, inUse, freeFrom, identifierFor, nextPair, nextIdentifier, withEntry, withText, withEnabled, withoutRows}
+use Rattle.rules.specs.Rows.{place, inUse, freeFrom, nextPair, nextIdentifier, withEntry}
 use Rattle.rules.specs.Held.{noRow}
-use Rattle.menu.specs.Table.{newRow, Beside, IdentifiersApart}
-use Rattle.menu.proofs.Tidy.{place-le}
-use Rattle.rows.proofs.Free as free
+use Rattle.rules.proofs.Listed as listed
+use Rattle.rules.proofs.Listed.{place-le}
+use Rattle.menu.specs.Table.{newRow, Beside}
 
 -- A new row never replaces or hides another: whatever their texts, each row that was there is there, in order, and the new one besides.
 pub inserted-beside : (position : ℕ) (new : Row) (rows : List Row) → Beside new rows (insertAt (place position (length rows)) new rows)
@@ -41,59 +40,13 @@ entry-counts kind x help text rows = count-insertAt kind (place (nextPair x .pos
 
 -- The free identifier lies in 128..255, and none below it is free; while there are fewer than 128 rows it is not in use.
 pub free-from : (rows : List Row) → 128 ≤ freeFrom 127 128 rows
-free-from rows = free.free-from 127 128 rows
+free-from rows = listed.free-from 127 128 rows
 
 pub free-to : (rows : List Row) → freeFrom 127 128 rows ≤ 255
-free-to rows = free.free-to 127 128 rows
+free-to rows = listed.free-to 127 128 rows
 
 pub free-smallest : (rows : List Row) (i : ℕ) → 128 ≤ i → i < freeFrom 127 128 rows → inUse i rows ≡ true
-free-smallest rows i h f = free.free-least 127 128 rows i h f
+free-smallest rows i h f = listed.free-least 127 128 rows i h f
 
 pub free-unused : (rows : List Row) → length rows < 128 → inUse (freeFrom 127 128 rows) rows ≡ false
-free-unused rows h = free.free-unused 127 128 rows (omega arith)
-
--- The identifier that a new row gets is not in use, if the requested one is not.
-pub identifier-unused : (requested : ℕ) (rows : List Row) → length rows < 128 → ((requested ≡ 0 → ⊥) → inUse requested rows ≡ false) → inUse (identifierFor requested rows) rows ≡ false
-unfolding identifierFor
-identifier-unused n rows h f = go (n == 0) refl
-  where
-    go : (b : Bool) → (n == 0) ≡ b → inUse (if b then freeFrom 127 128 rows else n) rows ≡ false
-    go true e = free-unused rows h
-    go false e = f (eqb-false n 0 e)
-
--- Identifiers stay apart: in an empty list, and under an insertion, a deletion, a change, and a mark.
-pub apart-none : IdentifiersApart []
-unfolding count
-apart-none i = omega arith
-
-pub apart-inserted : (k : ℕ) (new : Row) (rows : List Row) → inUse (new .identifier) rows ≡ false → IdentifiersApart rows → IdentifiersApart (insertAt k new rows)
-unfolding inUse
-apart-inserted k x l u a i = go (x .identifier == i) refl (count-insertAt (hasIdentifier i) k x l)
-  where
-    go : (b : Bool) → (x .identifier == i) ≡ b → count (hasIdentifier i) (insertAt k x l) ≡ count (hasIdentifier i) l + (if b then 1 else 0) → count (hasIdentifier i) (insertAt k x l) ≤ 1
-    go true e n =
-        let z : count (hasIdentifier i) l ≡ 0 = ap (λ (j : ℕ). count (hasIdentifier j) l) (sym (eqb-true (x .identifier) i e)) ∙ count-missed (hasIdentifier (x .identifier)) l u in
-        omega arith
-    go false e n = omega (arith, a i)
-
-pub apart-entry : (x : Applet) (help : Bool) (text : List ℕ) (rows : List Row) → inUse (nextIdentifier x rows) rows ≡ false → IdentifiersApart rows → IdentifiersApart (withEntry x help text rows)
-unfolding withEntry
-apart-entry x help text rows u a = apart-inserted (place (nextPair x .position) (length rows)) _ rows u a
-
-apart-keep : (p : Row → Bool) (rows : List Row) → IdentifiersApart rows → IdentifiersApart (keep p rows)
-apart-keep p rows a i = omega (arith, a i, count-kept (hasIdentifier i) p rows)
-
-apart-change : (p : Row → Bool) (f : Row → Row) → ((r : Row) → f r .identifier ≡ r .identifier) → (rows : List Row) → IdentifiersApart rows → IdentifiersApart (change p f rows)
-apart-change p f e rows a i = rw (count-change (hasIdentifier i) p f (λ r. ap (λ (n : ℕ). n == i) (e r)) rows) (a i)
-
-pub apart-without : (applet : ℕ) (rows : List Row) → IdentifiersApart rows → IdentifiersApart (withoutRows applet rows)
-unfolding withoutRows
-apart-without n rows a = apart-keep _ rows a
-
-pub apart-text : (identifier : ℕ) (help : Bool) (text : List ℕ) (rows : List Row) → IdentifiersApart rows → IdentifiersApart (withText identifier help text rows)
-unfolding withText
-apart-text n help text rows a = apart-change _ _ (λ r. refl) rows a
-
-pub apart-enabled : (identifier : ℕ) (enabled : Bool) (rows : List Row) → IdentifiersApart rows → IdentifiersApart (withEnabled identifier enabled rows)
-unfolding withEnabled
-apart-enabled n b rows a = apart-change _ _ (λ r. refl) rows a
+free-unused rows h = listed.free-unused 127 128 rows (omega arith)

@@ -7,7 +7,7 @@ use mathlib.Core.Bool.{false}
 use mathlib.Core.List.{List, [], _∷_, _++_, map}
 use Rattle.lists.specs.Text.{ascii}
 use Rattle.rules.specs.Holds.{Row}
-use Rattle.rules.specs.Calls.{Call, admin, entry, install, delete, lock, unlock, newEntry}
+use Rattle.rules.specs.Calls.{Call, admin, entry, delete, lock, unlock, newEntry}
 use Rattle.rules.specs.Commands.{shownMenu}
 use Rattle.rules.proofs.Compute.{compute}
 use Rattle.rules.proofs.Cases.{after, afterFrom, installing, pair}

@@ -2,17 +2,16 @@
 -- made, and is proved by computation. Assumes nothing.
 use Prim.Native.Nat.{ℕ}
 use mathlib.Core.Path.{_≡_, refl}
-use mathlib.Core.Bool.{Bool, true, false}
+use mathlib.Core.Bool.{false}
 use mathlib.Core.List.{List, [], _∷_, _++_, map}
 use lib.ListN.{replicate}
 use lib.IntN.{pos}
 use Rattle.lists.specs.Text.{bytes}
 use Rattle.rules.specs.declared.Pair.{Pair}
-use Rattle.rules.specs.declared.Request.{Request}
 use Rattle.rules.specs.declared.Len.the-variants.{Known, Bad}
 use Rattle.rules.specs.Holds.{Row, Model, fresh, document}
 use Rattle.rules.specs.Bytes.{lengthAt}
-use Rattle.rules.specs.Calls.{Call, Outcome, admin, event, entry, timer, arrival}
+use Rattle.rules.specs.Calls.{Call, admin, event, entry, timer, arrival}
 use Rattle.rules.specs.Calls.{install, delete, lock, unlock, setEvent, newEntry, allocate, release, envelope, settled}
 use Rattle.rules.specs.Step.{step}
 use Rattle.rules.specs.Beside.{bankAllocate}

@@ -1,12 +1,9 @@
 -- A call that changes no table marks nothing due.
 -- Assumes nothing.
-use Prim.Native.Nat.{ℕ}
-use mathlib.Core.Path.{_≡_, refl, ap, _∙_}
-use mathlib.Core.Bool.{Bool, true, false, not, Bool·beq, _&&_, _||_}
-use mathlib.Core.List.{List, [], _∷_}
+use mathlib.Core.Path.{_≡_, refl}
+use mathlib.Core.Bool.{Bool, true, false}
 use borrow.Author.Tests.{eq-eqb}
 use Rattle.lists.specs.Tests.{if_then_else_}
-use Rattle.lists.specs.Lists.{alike?, same?}
 use Rattle.lists.proofs.Truth.{or-false, beq-self}
 use Rattle.lists.proofs.Alike.{alike-self, same-self}
 use Rattle.rules.specs.Holds.{Row, Tables, Desk}

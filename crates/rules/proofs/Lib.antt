@@ -8,3 +8,4 @@ pub mod Bounds
 pub mod Due
 pub mod Held
 pub mod Reader
+pub mod Listed

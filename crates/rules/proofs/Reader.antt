@@ -1,19 +1,18 @@
 -- The menu reader: a menu command read back gives the title, the help mark and the items it was written from, and what it
 -- accepts is exactly what can be written.
 -- Assumes nothing.
-use Prim.Native.Nat.{ℕ, zero, suc, _+_, _-_, _≤_, _<_}
+use Prim.Native.Nat.{ℕ, zero, suc, _-_, _≤_}
 use native.Mathlib.Omega.{arith}
-use mathlib.Core.Path.{_≡_, refl, sym, ap, _∙_}
+use mathlib.Core.Path.{_≡_, refl, ap, _∙_}
 use mathlib.Core.Bool.{Bool, true, false, not, _&&_, and-eq-true-iff, false≢true}
 use mathlib.Core.List.{List, [], _∷_, _++_, map}
-use lib.ListN.{length, take, drop, getD}
+use lib.ListN.{length}
 use lib.Seq.{take-append-seam, drop-append-seam}
 use lib.Dec.{eqb, eqb·suc-zero}
 use borrow.Author.Tests.{ltb-true, leb-true, eqb-true, ne-eqb}
 use Rattle.lists.specs.Tests.{if_then_else_, _==_, _<?_, _≤?_}
 use Rattle.lists.specs.Lists.{gather, empty?, alike?, same?, every?, repeats?}
 use Rattle.rules.specs.Holds.{Bounds}
-use Rattle.rules.specs.Bytes.{byte}
 use Rattle.rules.specs.Commands.{Item, Menu, lengthBytes, commandBytes, detailBytes, itemBytes, itemsBytes, menuValue, menuBytes, readItems, partsOf, valueOf, readMenu, properItem, mayStand, isMenu}
 use Rattle.lists.proofs.Alike.{same-self}
 

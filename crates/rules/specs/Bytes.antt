@@ -8,7 +8,6 @@ use Rattle.rules.specs.declared.Len.{Len}
 use Rattle.rules.specs.declared.Len.the-variants.{Known, Bad}
 use Rattle.rules.specs.declared.Element.{Element}
 use Rattle.rules.specs.declared.Element.the-variants.{Whole, Malformed, End}
-use Rattle.rules.specs.declared.Span.{Span}
 use Rattle.rules.specs.declared.Found.{Found}
 use Rattle.rules.specs.declared.Found.the-variants.{At, Nothing}
 use Rattle.rules.specs.declared.Outer.{Outer}

@@ -1,6 +1,6 @@
 -- What the card holds (document 01, "What the card holds").
 use Prim.Native.Nat.{ℕ, suc}
-use mathlib.Core.Bool.{Bool, true, false}
+use mathlib.Core.Bool.{Bool, false}
 use mathlib.Core.List.{List, []}
 use lib.ListN.{replicate, set}
 use Rattle.rules.specs.declared.Pair.{Pair}

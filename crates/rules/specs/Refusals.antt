@@ -13,7 +13,7 @@
 --
 -- The calls that need no card (a fresh card, the menu reader, the bank alone) stand in Beside.
 use Prim.Native.Nat.{ℕ}
-use mathlib.Core.Bool.{Bool, true, false, not, _&&_}
+use mathlib.Core.Bool.{Bool, false, not, _&&_}
 use mathlib.Core.List.{List, [], _∷_}
 use lib.ListN.{length}
 use Rattle.lists.specs.Tests.{if_then_else_, _<?_}

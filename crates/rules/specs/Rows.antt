@@ -1,6 +1,6 @@
 -- Rows and identifiers (document 01, "Rows, identifiers, timers").
 use Prim.Native.Nat.{ℕ, zero, suc, _-_}
-use mathlib.Core.Bool.{Bool, true, false, not, _&&_, _||_}
+use mathlib.Core.Bool.{Bool, true, not, _&&_, _||_}
 use mathlib.Core.List.{List}
 use lib.ListN.{length, getD}
 use Rattle.lists.specs.Tests.{if_then_else_, _==_, _<?_, _≤?_}

@@ -1,6 +1,6 @@
 -- One call on the card: what it changes, what it answers, and that a refusal changes nothing.
 use Prim.Native.Nat.{ℕ, zero, suc}
-use mathlib.Core.Bool.{Bool, true, false, not}
+use mathlib.Core.Bool.{true, false, not}
 use mathlib.Core.List.{List, [], _∷_, _++_, map}
 use lib.ListN.{length, drop}
 use Rattle.lists.specs.Lists.{keep, change}

@@ -1,13 +1,13 @@
 -- An accepted new entry keeps the tables sound.
 -- Assumes nothing.
-use Prim.Native.Nat.{ℕ, _+_, _-_, _≤_, _<_}
+use Prim.Native.Nat.{ℕ, _+_, _≤_}
 use native.Mathlib.Omega.{arith}
 use mathlib.Core.Path.{_≡_, refl, ap, _∙_}
 use mathlib.Core.Bool.{Bool, true, false}
 use mathlib.Core.List.{List, [], _∷_}
 use lib.ListN.{length}
-use borrow.Author.Tests.{eqb-true, ltb-false}
-use Rattle.lists.specs.Tests.{if_then_else_, _==_, _<?_}
+use borrow.Author.Tests.{eqb-true}
+use Rattle.lists.specs.Tests.{if_then_else_, _==_}
 use Rattle.lists.specs.Lists.{Every, count, change, in?}
 use Rattle.lists.proofs.Decided.{or-either, turned, one-only}
 use Rattle.lists.proofs.Every.{every-so, every-insertAt, every-change}
@@ -21,22 +21,13 @@ use Rattle.rules.specs.Applets.{hasNumber, present, applet, nobody, requested}
 use Rattle.rules.specs.Rows.{hasIdentifier, place, inUse, nextPair, nextIdentifier, withEntry}
 use Rattle.rules.specs.Calls.{newEntry}
 use Rattle.rules.specs.Step.{entryTables}
+use Rattle.rules.proofs.Listed.{place-le}
 use Rattle.runs.specs.Sound.{SoundApplet, SoundRow, SoundTables, NobodyOrPresent, served, requests}
 use Rattle.runs.proofs.Filled.{NewEntry}
 use Rattle.runs.proofs.Looked.{has-its-number, sound-applet}
 use Rattle.runs.proofs.Room.{entry-room}
 use Rattle.runs.proofs.Next.{served-more, next-from, next-to, next-unused, next-served}
 use Rattle.runs.proofs.Frames.{SameLimits, present-still, limits-still, numbers-still, total-still, requests-still, row-moved, owner-moved}
-
--- the index of a position is no more than the rows
-place-within : (p n : ℕ) → place p n ≤ n
-unfolding place
-place-within p n = go (p == 0) (n <? p) refl
-  where
-    go : (s b : Bool) → (n <? p) ≡ b → (if s then n else if b then n else p - 1) ≤ n
-    go true b e = omega arith
-    go false true e = omega arith
-    go false false e = omega (arith, ltb-false n p e)
 
 -- Who is present afterwards, and as what.
 module _ (t : Tables) (n : ℕ) (help : Bool) (text : List ℕ) where
@@ -164,7 +155,7 @@ module _ (t : Tables) (g : SoundTables t) (n : ℕ) (help : Bool) (text : List �
 
   few-after : length (withEntry x help text (t .rows)) ≤ t .bounds .rows
   unfolding withEntry
-  few-after = omega (arith, entry-room t g n (a .here) (a .more), length-insertAt (place (nextPair x .position) (length (t .rows))) row (t .rows) (place-within (nextPair x .position) (length (t .rows))))
+  few-after = omega (arith, entry-room t g n (a .here) (a .more), length-insertAt (place (nextPair x .position) (length (t .rows))) row (t .rows) (place-le (nextPair x .position) (length (t .rows))))
 
   pub entry-sound : SoundTables after
   unfolding entryTables

@@ -1,7 +1,6 @@
 -- That every card that a fresh card and calls have left is sound, by what a call touches; and laws that follow.
 pub mod Looked
 pub mod Accepted
-pub mod Unused
 pub mod Room
 pub mod Next
 pub mod Frames
@@ -13,4 +12,3 @@ pub mod Deleted
 pub mod Entered
 pub mod Altered
 pub mod Run
-pub mod Granted

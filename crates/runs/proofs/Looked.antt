@@ -8,7 +8,7 @@ use Rattle.lists.specs.Tests.{_==_}
 use Rattle.lists.specs.Lists.{Every, some?, first}
 use Rattle.lists.proofs.Every.{every-first}
 use Rattle.lists.proofs.Firsts.{first-passes, first-missed}
-use Rattle.lists.proofs.Owned.{every-there, every-own, first-both}
+use Rattle.lists.proofs.Owned.{every-own, first-both}
 use Rattle.rules.specs.Holds.{Applet, Row, Tables}
 use Rattle.rules.specs.Applets.{hasNumber, present, applet, nobody}
 use Rattle.rules.specs.Rows.{hasIdentifier}
@@ -24,11 +24,6 @@ has-its-number t n e = eqb-true _ n (first-passes (hasNumber n) nobody (t .apple
 pub absent-nobody : (t : Tables) (n : ℕ) → present t n ≡ false → applet t n ≡ nobody
 unfolding present applet
 absent-nobody t n e = first-missed (hasNumber n) nobody (t .applets) e
-
--- each in the list is present, and is the one that the look-up finds
-pub each-present : (t : Tables) → Every (λ (x : Applet). present t (x .number) ≡ true) (t .applets)
-unfolding present
-each-present t = every-there (λ (x : Applet). x .number) (t .applets)
 
 module _ (t : Tables) (s : SoundTables t) where
   pub each-found : Every (λ (x : Applet). applet t (x .number) ≡ x) (t .applets)

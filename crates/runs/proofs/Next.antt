@@ -23,10 +23,10 @@ use Rattle.rules.specs.Holds.{Applet, Row, Tables, withOneMore}
 use Rattle.rules.specs.Applets.{hasNumber, present, applet, nobody, entries, requested}
 use Rattle.rules.specs.Rows.{hasIdentifier, inUse, freeFrom, identifierFor, noPair, nextPair, nextIdentifier}
 use Rattle.rules.specs.Held.{noRow}
+use Rattle.rules.proofs.Listed.{free-unused, free-from, free-to}
 use Rattle.runs.specs.Sound.{SoundRow, SoundTables, served, requests}
 use Rattle.runs.proofs.Looked.{sound-applet}
 use Rattle.runs.proofs.Room.{entry-room}
-use Rattle.runs.proofs.Unused.{free-unused, free-from, free-to}
 
 requested-append : (l k : List Pair) → requested (l ++ k) ≡ requested l ++ requested k
 unfolding requested

@@ -13,7 +13,7 @@ use Rattle.lists.proofs.Ifs.{if-holds}
 use Rattle.rules.specs.declared.Kind.{Kind}
 use Rattle.rules.specs.declared.Kind.the-variants.{Event, Issuer, Reserved, Unsupported}
 use Rattle.rules.specs.Holds.{Applet, Tables, Model, withApplets, withControl, withSelectable, withEvent}
-use Rattle.rules.specs.Events.{kindOf, callControl, handlerAvailable}
+use Rattle.rules.specs.Events.{kindOf, callControl}
 use Rattle.rules.specs.Applets.{hasNumber, present, nobody, forget, withRegistration, register, usedUp}
 use Rattle.rules.specs.Calls.{EventCall, event, setEvent, clearEvent, askEvent}
 use Rattle.rules.specs.Refusals.{lines, eventLines, refusal}

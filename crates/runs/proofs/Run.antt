@@ -9,7 +9,7 @@ use mathlib.Core.List.{List, [], _∷_}
 use lib.ListN.{length, take, length-take, length-replicate}
 use borrow.Author.Tests.{ltb-false, ne-eqb}
 use Rattle.lists.specs.Tests.{if_then_else_, _==_, _<?_}
-use Rattle.lists.specs.Lists.{Every, every?, some?, first, count, sum, gather}
+use Rattle.lists.specs.Lists.{Every, some?, first, count, sum, gather}
 use Rattle.lists.proofs.Every.{every-replicate}
 use Rattle.lists.proofs.Counts.{count-replicate}
 use Rattle.lists.proofs.Padded.{length-padded}
@@ -53,11 +53,11 @@ fresh-with : (b : Bounds) → b .rows ≤ 128 → (title : List ℕ) → length 
 fresh-with b few title h = record { tables = fresh-tables b few title; title = h; profile = length-replicate {A = ℕ} 32 0 }
 
 pub fresh-sound : (b : Bounds) → b .rows ≤ 128 → (title : List ℕ) → Sound (freshCard b title .card)
-unfolding freshCard freshBy every? Every
+unfolding freshCard freshBy Every
 fresh-sound b few title = go (lowest (line 12 (b .title <? length title) ∷ [])) refl
   where
     go : (n : ℕ) → lowest (line 12 (b .title <? length title) ∷ []) ≡ n → Sound (freshBy n b title .card)
-    go zero e = fresh-with b few title (ltb-false (b .title) (length title) (lowest-none (line 12 (b .title <? length title) ∷ []) refl e .0))
+    go zero e = fresh-with b few title (ltb-false (b .title) (length title) (lowest-none (line 12 (b .title <? length title) ∷ []) (omega arith, tt) e .0))
     go (suc n) e = fresh-with b few [] (omega arith)
 
 -- The tables after an accepted call.

@@ -1,7 +1,7 @@
 -- What each accepted call changes of the shown menu, by the tests of this crate: the rule compares what is shown before and after, and
 -- the tests say the same. Assumes nothing.
 use Prim.Native.Nat.{ℕ}
-use mathlib.Core.Path.{_≡_, refl, sym, ap, _∙_}
+use mathlib.Core.Path.{_≡_, refl, ap, _∙_}
 use mathlib.Core.Bool.{Bool, true, false, not, Bool·beq, _&&_, _||_}
 use mathlib.Core.List.{List}
 use borrow.Author.Tests.{eq-eqb}

@@ -1,7 +1,7 @@
 -- The owners of a bank: what the two timer calls give, case by case, and what their callers may use of it.
 -- Assumes nothing.
 use mathlib.Core.Path.{_≡_, refl, sym, ap, _∙_}
-use mathlib.Core.Bool.{Bool, true, false, _&&_}
+use mathlib.Core.Bool.{Bool, true, false}
 use mathlib.Core.List.{List, map}
 use Prim.Native.Nat.{ℕ, _+_, _-_, _^_, _≤_, _<_, min}
 use native.Mathlib.Numerals.{add-one}
@@ -12,6 +12,7 @@ use lib.ListN.{length, getD, set, length-map, List·getD-eq-default}
 use lib.Count.{ones, trailingZeros}
 use Rattle.lists.specs.Tests.{_==_}
 use Rattle.lists.specs.Lists.{count, run}
+use Rattle.lists.proofs.Decided.{both}
 use Rattle.rules.specs.declared.Bank.{Bank}
 use Rattle.rules.specs.declared.Given.the-variants as given
 use Rattle.rules.specs.declared.Done.the-variants as done
@@ -27,10 +28,6 @@ use Rattle.timers.proofs.Sets.{ones-count, count-alike, between-one, tr
 pub owner-between : (n : ℕ) (b : Bool) → isBetween 1 8 n ≡ b → isOwner n ≡ b
 unfolding isOwner isBetween
 owner-between n b e = e
-
-both : (x y : Bool) → (x && y) ≡ true → (x ≡ true) × (y ≡ true)
-both true y e = (refl, e)
-both false y e = (cc, cc)
 
 pub owner-range : (n : ℕ) → isOwner n ≡ true → (1 ≤ n) × (n ≤ 8)
 unfolding isOwner

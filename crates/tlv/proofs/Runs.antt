@@ -6,7 +6,7 @@ use mir.Val.{Fits}
 use mir.Syntax.{w64}
 use mathlib.Core.Path.{_≡_, refl, sym, ap, _∙_, subst}
 use mathlib.Core.List.{List}
-use lib.ListN.{length, drop, length-drop, length-take}
+use lib.ListN.{length}
 use Rattle.lists.specs.Tests.{_==_, _≤?_}
 use Rattle.lists.proofs.Ifs.{if-holds}
 use Rattle.rules.specs.declared.Element.{Element}
@@ -14,7 +14,7 @@ use Rattle.rules.specs.declared.Element.the-variants.{Whole, Malformed, End}
 use Rattle.rules.specs.declared.Span.{Span}
 use Rattle.rules.specs.declared.Found.{Found}
 use Rattle.rules.specs.declared.Found.the-variants.{At, Nothing}
-use Rattle.rules.specs.Bytes.{elementAt, Run, done, broken, more, grow, runBy, runAt, nth, found, partOf}
+use Rattle.rules.specs.Bytes.{elementAt, Run, done, broken, more, grow, runBy, runAt, nth, found}
 use Rattle.tlv.proofs.Ends.{element-inside}
 
 -- what follows an element matters only where one stands
@@ -85,9 +85,3 @@ found-inside s tag n e q =
 -- the position past what is found fits
 pub found-fits : (s : List ℕ) (tag n : ℕ) {f : Found} {p : Span} → f ≡ found s tag n → f ≡ At p → length s * 1 < 2 ^ 63 → Fits w64 (p .start + p .len)
 found-fits s tag n e q g = omega (arith, found-inside s tag n e q)
-
--- a part is no longer than the whole
-pub part-short : (s : List ℕ) (f : Found) → length (partOf s f) ≤ length s
-unfolding partOf
-part-short s (At p) = omega (arith, length-take (p .len) (drop (p .start) s), length-drop (p .start) s)
-part-short s Nothing = omega arith

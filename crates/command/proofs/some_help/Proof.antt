@@ -1,6 +1,5 @@
 -- `some_help` meets its contract. Assumes nothing.
 use Prim.Native.Nat.{_-_}
-use mathlib.Core.Path.{_≡_, sym, _∙_}
 use native.Mathlib.Omega.{arith}
 use Rattle.lists.proofs.Looking.{Looking, looking-none, looking-more, looking-hit, looking-all}
 use Rattle.rules.specs.declared.Row.{Row}

@@ -1,6 +1,5 @@
 -- `write_events` meets its contract. Assumes nothing.
 use mathlib.Core.Path.{refl}
-use native.Mathlib.Omega.{arith}
 use denote.Ref.{now}
 use Rattle.command.proofs.Whole.{wrote-events, room-head, room-third}
 use borrow.Author.Needs.{needs}

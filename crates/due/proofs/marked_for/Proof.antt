@@ -1,6 +1,5 @@
 -- `marked_for`: where the applet turns, by what its rows and its codes say; else nothing is marked.
 -- Assumes nothing.
-use mathlib.Core.Path.{_∙_}
 use borrow.Author.Needs.{needs}
 use Rattle.due.proofs.Marks.{turn-marks, turn-nothing}
 use Rattle.due.proofs.marked_for.Statement.{statement}

@@ -1,13 +1,14 @@
 -- `menu::shifted` meets its contract: the invariant: the rows from i on stand one place further down.
 -- Assumes nothing.
-use Prim.Native.Nat.{ℕ, _≤_, _-_}
+use Prim.Native.Nat.{ℕ, _≤_}
 use mathlib.Core.Path.{_≡_, subst}
 use mathlib.Core.List.{map}
 use native.Mathlib.Omega.{arith}
 use Rattle.lists.proofs.Padded.{Open, open-more}
 use Rattle.lists.proofs.Mapped.{map-length}
 use Rattle.rules.specs.Held.{viewRows, storedRow}
-use Rattle.menu.proofs.Tidy.{blank, count-is, place-le, opens, puts}
+use Rattle.rules.proofs.Listed.{place-le}
+use Rattle.menu.proofs.Tidy.{blank, count-is, opens, puts}
 use borrow.Author.Needs.{needs}
 use Rattle.menu.proofs.shifted.Statement.{statement}
 use Rattle.menu.proofs.shifted.Tie as tie

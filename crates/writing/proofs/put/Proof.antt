@@ -1,7 +1,6 @@
 -- `writing::put` meets its contract: the loop has copied the first i bytes.
 -- Assumes nothing.
-use Prim.Native.Nat.{_≤_, _-_}
-use native.Mathlib.Omega.{arith}
+use Prim.Native.Nat.{_-_}
 use borrow.Author.Needs.{needs}
 use Rattle.lists.proofs.Writing.{Copied, copied-none, copied-more, copied-all}
 use Rattle.writing.proofs.put.Statement.{statement}

@@ -1,6 +1,5 @@
 -- `profile`: refused where there are no bytes, else a session begins and those registered are called.
 -- Assumes nothing.
-use native.Mathlib.Omega.{arith}
 use Rattle.card.proofs.Left.{tidy-applets, tidy-rows}
 use Rattle.card.proofs.ArrivalLaws.{profile-refuses, profile-accepts}
 use Rattle.card.proofs.Card.profile.Statement.{statement}

@@ -1,6 +1,5 @@
 -- `settled`: refused where a command is outstanding, else those registered are called and unregistered.
 -- Assumes nothing.
-use native.Mathlib.Omega.{arith}
 use Rattle.card.proofs.Left.{tidy-applets}
 use Rattle.card.proofs.ArrivalLaws.{settled-refuses, settled-accepts}
 use Rattle.card.proofs.Card.settled.Statement.{statement}
