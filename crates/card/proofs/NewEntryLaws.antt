@@ -31,8 +31,9 @@ use Rattle.runs.proofs.Filled.{NewEntry, new-entry}
 use Rattle.runs.proofs.Room.{entry-room}
 use Rattle.registry.specs.declared.Looked.{Looked}
 use Rattle.registry.specs.Looks.{lookedUp}
-use Rattle.registry.specs.Counts.{countedOn}
-use Rattle.registry.proofs.Table.{applet-is, counted}
+use Rattle.altered.specs.Counts.{countedOn}
+use Rattle.registry.proofs.Table.{applet-is}
+use Rattle.altered.proofs.Changes.{counted}
 use Rattle.menu.specs.Table.{newRow, withRow, TidyRow}
 use Rattle.menu.proofs.Tidy.{row-back, tidy-row, inserted-room}
 use Rattle.shown.proofs.DueApplets.{entry-menu}

@@ -28,7 +28,7 @@ fn locked(card: Card, applet: u8, on: bool) -> Changed
     let desk = card.desk;
     let rows = card.rows;
     let mut next = card;
-    next.applets = registry::locked(applets, applet, on);
+    next.applets = altered::locked(applets, applet, on);
     next.desk = due::marked_for(desk, a.selectable != on, applets, rows, a);
     Changed {
         card: next,
@@ -76,7 +76,7 @@ impl Card {
         let bank = self.bank;
         let desk = self.desk;
         let next = Card {
-            applets: registry::without(applets, applet),
+            applets: remaining::without(applets, applet),
             rows: menu::without(rows, applet),
             bank: timers::freed(bank, applet),
             control: timers::forgotten(self.control, applet),

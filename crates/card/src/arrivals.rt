@@ -24,7 +24,7 @@ impl Card {
         let marks = parts::proactive_only();
         let answer = parts::named(callees, marks);
         let mut left = self;
-        left.applets = registry::settled(applets);
+        left.applets = remaining::settled(applets);
         Arrived { card: left, answer }
     }
 

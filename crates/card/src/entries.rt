@@ -34,7 +34,7 @@ impl Card {
         let identifier = rows::identifier_for(rows, pair.identifier);
         let row = rows::row_of(identifier, applet, help, text);
         let next = menu::inserted(rows, pair.position, row);
-        let more = registry::one_more(applets, applet);
+        let more = altered::one_more(applets, applet);
         let due = due::marked(desk, owner.selectable, false);
         let mut left = self;
         left.applets = more;

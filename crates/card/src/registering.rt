@@ -30,7 +30,7 @@ impl Card {
         }
         let applets = self.applets;
         let turns = due::event_turns(applets, looked.applet, place, on);
-        left.applets = registry::registered(applets, number, place, on);
+        left.applets = altered::registered(applets, number, place, on);
         left.desk = due::marked(self.desk, false, turns);
         left
     }

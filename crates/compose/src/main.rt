@@ -3,8 +3,9 @@
 use libc::STDERR_FILENO;
 use libc::STDIN_FILENO;
 use libc::STDOUT_FILENO;
-use script::Cause;
 use script::Stop;
+use script_line::Cause;
+ghost use mathlib.Core.Path.{_≡_};
 ghost use Prim.Native.Nat.{_≤_};
 ghost use lib.ListN.{length};
 
@@ -15,24 +16,53 @@ struct Rest {
     goes_on: bool,
 }
 
-// The cause of a bad line, in words.
-fn say(cause: Cause) {
+// The place of a cause among the words.
+fn place_of(cause: Cause) -> usize {
     match cause {
-        Cause::UnknownLetter => io::write_all(STDERR_FILENO, b"unknown letter\n"),
-        Cause::MissingApplet => io::write_all(STDERR_FILENO, b"missing applet\n"),
-        Cause::MissingNumber => io::write_all(STDERR_FILENO, b"missing number\n"),
-        Cause::BadNumber => io::write_all(STDERR_FILENO, b"bad number\n"),
-        Cause::LargeNumber => io::write_all(STDERR_FILENO, b"number too large\n"),
-        Cause::BadByte => io::write_all(STDERR_FILENO, b"bad byte\n"),
-        Cause::ManyBytes => io::write_all(STDERR_FILENO, b"too many bytes\n"),
-        Cause::OpenQuote => io::write_all(STDERR_FILENO, b"unclosed quote\n"),
-        Cause::MissingSpace => io::write_all(STDERR_FILENO, b"missing space\n"),
-        Cause::MissingHelp => io::write_all(STDERR_FILENO, b"missing help byte\n"),
-        Cause::BadHelp => io::write_all(STDERR_FILENO, b"help byte not 00 or 01\n"),
-        Cause::ExtraWord => io::write_all(STDERR_FILENO, b"unexpected argument\n"),
-        Cause::LongLine => io::write_all(STDERR_FILENO, b"line too long\n"),
+        Cause::UnknownLetter => 0,
+        Cause::MissingApplet => 1,
+        Cause::MissingNumber => 2,
+        Cause::BadNumber => 3,
+        Cause::LargeNumber => 4,
+        Cause::BadByte => 5,
+        Cause::ManyBytes => 6,
+        Cause::OpenQuote => 7,
+        Cause::MissingSpace => 8,
+        Cause::MissingHelp => 9,
+        Cause::BadHelp => 10,
+        Cause::ExtraWord => 11,
+        Cause::LongLine => 12,
     }
-    ;
+}
+
+// The place of the first line feed from a position on, or the end.
+fn line_end(s: &[u8], from: usize) -> usize
+    requires { ⌜ from ≤ length (now s) ⌝ }
+    ensures { λ r. ⌜ (from ≤ r) × (r ≤ length (now (s .entry))) ⌝ }
+{
+    let mut i = from;
+    while i < s.len() {
+        if s[i] == b'\n' {
+            return i;
+        }
+        i += 1;
+    }
+    i
+}
+
+// Writes the line of a text at a place, counted from 0.
+fn say_line(text: &[u8], place: usize) {
+    let mut line: usize = 0;
+    let mut at: usize = 0;
+    while at < text.len() {
+        let end = line_end(text, at);
+        if line == place {
+            io::write_all(STDERR_FILENO, &text[at..end]);
+            return;
+        }
+        line += 1;
+        at = end + 1;
+    }
 }
 
 // Says which line is bad, and why.
@@ -40,7 +70,23 @@ fn complain(line: u64, cause: Cause) {
     io::write_all(STDERR_FILENO, b"compose: line ");
     io::print_decimal(STDERR_FILENO, line);
     io::write_all(STDERR_FILENO, b": ");
-    say(cause);
+    say_line(
+        b"unknown letter\n\
+          missing applet\n\
+          missing number\n\
+          bad number\n\
+          number too large\n\
+          bad byte\n\
+          too many bytes\n\
+          unclosed quote\n\
+          missing space\n\
+          missing help byte\n\
+          help byte not 00 or 01\n\
+          unexpected argument\n\
+          line too long\n",
+        place_of(cause),
+    );
+    io::write_all(STDERR_FILENO, b"\n");
 }
 
 // Moves the bytes from `from` up to `to` to the front, and says how many they are.
@@ -69,6 +115,17 @@ fn settle(stop: Stop, lines: u64, n: usize) -> bool {
     }
 }
 
+// The run ends, and nothing is kept.
+fn stopped() -> Rest
+    ensures { λ r. ⌜ r .kept ≡ 0 ⌝ }
+{
+    Rest {
+        kept: 0,
+        lines: 0,
+        goes_on: false,
+    }
+}
+
 // Reads once, writes the records of the lines that are whole, and keeps what is left of the text.
 fn turn(text: &mut [u8], out: &mut [u8], rest: Rest) -> Rest
     requires { ⌜ rest .kept ≤ length (now text) ⌝ }
@@ -78,22 +135,14 @@ fn turn(text: &mut [u8], out: &mut [u8], rest: Rest) -> Rest
     let got = libc::read(STDIN_FILENO, &mut text[kept..]);
     if got < 0 {
         io::write_all(STDERR_FILENO, b"compose: standard input cannot be read\n");
-        return Rest {
-            kept: 0,
-            lines: 0,
-            goes_on: false,
-        };
+        return stopped();
     }
     let n = io::count(got, &text[kept..]);
     let end = kept + n;
     let done = script::compose(&text[..end], out, n == 0);
     let wrote = done.records * 24;
     if !io::write_all(STDOUT_FILENO, &out[..wrote]) {
-        return Rest {
-            kept: 0,
-            lines: 0,
-            goes_on: false,
-        };
+        return stopped();
     }
     let at = done.at;
     let left = keep(text, at, end);

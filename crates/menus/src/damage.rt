@@ -1,7 +1,7 @@
 // A menu command with one thing wrong, and the same for each place where it can be wrong.
 // What is counted is how many were tried and how many of them the reader refuses.
 use libc::STDOUT_FILENO;
-ghost use Prim.Native.Nat.{_<_, _≤_};
+ghost use Prim.Native.Nat.{_<_, _≤_, _+_};
 ghost use lib.ListN.{length};
 
 // How a byte is changed.
@@ -48,10 +48,10 @@ fn and_one(before: Tried, refusal: u8) -> Tried {
     }
 }
 
-// The command as it is.
-pub fn whole(s: &[u8]) -> Tried {
+// What the reader says of the command as it is.
+fn refusal(s: &[u8]) -> u8 {
     let menu = reader::read_menu(s);
-    and_one(none(), menu.refusal)
+    menu.refusal
 }
 
 // The command with the byte at a position changed, if there is one.
@@ -61,13 +61,13 @@ fn with_byte(before: Tried, s: &mut [u8], at: usize, way: Way) -> Tried {
     }
     let old = s[at];
     s[at] = changed(old, way);
-    let menu = reader::read_menu(s);
+    let refused = refusal(s);
     s[at] = old;
-    and_one(before, menu.refusal)
+    and_one(before, refused)
 }
 
 // The command with each byte at the position behind it.
-pub fn behind(s: &mut [u8], end: usize) -> Tried {
+fn behind(s: &mut [u8], end: usize) -> Tried {
     let mut sum = none();
     let mut i: usize = 0;
     while i < 256 {
@@ -90,9 +90,9 @@ fn each_byte(s: &mut [u8], way: Way) -> Tried {
 }
 
 // The position behind the element at a position.
-fn past(s: &[u8], at: usize) -> usize
-    requires { ⌜ at < length (now s) ⌝ }
-    ensures { λ r. ⌜ at < r ⌝ }
+pub fn past(s: &[u8], at: usize) -> usize
+    requires { ⌜ at ≤ length (now s) + 300 ⌝ }
+    ensures { λ r. ⌜ (at < r) × (r ≤ at + 257) ⌝ }
 {
     at + 2 + byte_at(s, at + 1) as usize
 }
@@ -121,6 +121,13 @@ fn value_at(s: &[u8]) -> usize
     2
 }
 
+// Where the items start, behind the title.
+fn items_at(s: &[u8]) -> usize
+    ensures { λ r. ⌜ r ≤ 269 ⌝ }
+{
+    past(s, value_at(s) + 9)
+}
+
 // Each length, the command's own first.
 fn each_length(s: &mut [u8], way: Way) -> Tried {
     let v = value_at(s);
@@ -128,60 +135,61 @@ fn each_length(s: &mut [u8], way: Way) -> Tried {
     each_element(own, s, v, 1, way)
 }
 
-pub fn told(name: &[u8], tried: Tried) {
+// Writes how many were tried and refused of the kind of damage at a place.
+fn told(kind: usize, tried: Tried) {
     crate::put(b"  ");
-    crate::put(name);
-    crate::put(b": ");
+    crate::put_line(
+        b"a byte less: \n\
+          a byte behind: \n\
+          length one more: \n\
+          length one less: \n\
+          flag missing: \n\
+          identifier twice: \n\
+          item with length 0: \n\
+          lowest bit turned: \n\
+          highest bit turned: \n",
+        kind,
+    );
     io::print_decimal(STDOUT_FILENO, tried.refused);
     crate::put(b" of ");
     io::print_decimal(STDOUT_FILENO, tried.count);
     crate::put(b" refused\n");
 }
 
-// Each length and each tag.
-fn tell_fields(s: &mut [u8]) {
-    told(b"length one more", each_length(s, Way::Up));
-    told(b"length one less", each_length(s, Way::Down));
-    let v = value_at(s);
-    told(
-        b"flag missing",
-        each_element(none(), s, v, 0, Way::Turned(0x80)),
-    );
-}
-
-// The items behind the title at a position, where there are any.
-fn tell_items(s: &mut [u8], title: usize) {
-    if s.len() <= title {
-        return;
-    }
-    let items = past(s, title);
-    if s.len() <= items {
-        return;
-    }
+// The items, where there are any.
+fn tell_items(s: &mut [u8]) {
+    let items = items_at(s);
     if byte_at(s, items + 1) == 0 {
         return;
     }
     let first = byte_at(s, items + 2);
     let second = past(s, items);
-    told(
-        b"identifier twice",
-        each_element(none(), s, second, 2, Way::To(first)),
-    );
-    told(
-        b"item with length 0",
-        each_element(none(), s, items, 1, Way::To(0)),
-    );
+    told(5, each_element(none(), s, second, 2, Way::To(first)));
+    told(6, each_element(none(), s, items, 1, Way::To(0)));
 }
 
 fn tell_bits(s: &mut [u8]) {
-    told(b"lowest bit turned", each_byte(s, Way::Turned(1)));
-    told(b"highest bit turned", each_byte(s, Way::Turned(0x80)));
+    told(7, each_byte(s, Way::Turned(1)));
+    told(8, each_byte(s, Way::Turned(0x80)));
 }
 
 // Every kind of damage that leaves the command its size.
-pub fn tell_kinds(s: &mut [u8]) {
-    tell_fields(s);
+fn tell_kinds(s: &mut [u8]) {
+    told(2, each_length(s, Way::Up));
+    told(3, each_length(s, Way::Down));
     let v = value_at(s);
-    tell_items(s, v + 9);
+    told(4, each_element(none(), s, v, 0, Way::Turned(0x80)));
+    tell_items(s);
     tell_bits(s);
+}
+
+// Every kind of damage to the first n bytes.
+pub fn tell(out: &mut [u8], n: usize)
+    requires { ⌜ (1 ≤ n) × (n < length (now out)) ⌝ }
+{
+    let less = n - 1;
+    let more = n + 1;
+    told(0, and_one(none(), refusal(&out[..less])));
+    told(1, behind(&mut out[..more], n));
+    tell_kinds(&mut out[..n]);
 }

@@ -35,6 +35,36 @@ fn put_front(s: &[u8], n: u8) {
     }
 }
 
+// The place of the first line feed from a position on, or the end.
+fn line_end(s: &[u8], from: usize) -> usize
+    requires { ⌜ from ≤ length (now s) ⌝ }
+    ensures { λ r. ⌜ (from ≤ r) × (r ≤ length (now (s .entry))) ⌝ }
+{
+    let mut i = from;
+    while i < s.len() {
+        if s[i] == b'\n' {
+            return i;
+        }
+        i += 1;
+    }
+    i
+}
+
+// Writes the line of a text at a place, counted from 0.
+fn put_line(text: &[u8], place: usize) {
+    let mut line: usize = 0;
+    let mut at: usize = 0;
+    while at < text.len() {
+        let end = line_end(text, at);
+        if line == place {
+            put(&text[at..end]);
+            return;
+        }
+        line += 1;
+        at = end + 1;
+    }
+}
+
 fn put_item(item: Item) {
     put(b" ");
     put_byte(item.identifier);
@@ -64,8 +94,8 @@ fn say(s: &[u8]) {
     put(b"\n");
 }
 
-// An applet with four entries.
-fn installed(card: Card, applet: u8) -> Card
+// Three applets with four entries each.
+fn installed(card: Card) -> Card
     requires { ⌜ Left card ⌝ }
     ensures { λ r. ⌜ Left r ⌝ }
 {
@@ -81,16 +111,14 @@ fn installed(card: Card, applet: u8) -> Card
         text: 15,
         pairs,
     };
-    let changed = card.install(applet, request);
-    changed.card
-}
-
-fn entered(card: Card, applet: u8, help: bool, text: &[u8]) -> Card
-    requires { ⌜ Left card ⌝ }
-    ensures { λ r. ⌜ Left r ⌝ }
-{
-    let numbered = card.new_entry(applet, help, text);
-    numbered.card
+    let mut left = card;
+    let mut applet: u8 = 1;
+    while applet < 4 {
+        let changed = left.install(applet, request);
+        left = changed.card;
+        applet += 1;
+    }
+    left
 }
 
 // So many entries with one text; each second one has help.
@@ -101,7 +129,8 @@ fn filled(card: Card, rows: u8, text: &[u8]) -> Card
     let mut left = card;
     let mut i: u8 = 0;
     while i < rows {
-        left = entered(left, i / 4 + 1, i % 2 == 1, text);
+        let numbered = left.new_entry(i / 4 + 1, i % 2 == 1, text);
+        left = numbered.card;
         i += 1;
     }
     left
@@ -113,10 +142,7 @@ fn begun(title: &[u8], rows: u8, text: &[u8]) -> Card
 {
     let made = Card::fresh(title);
     let fresh = made.card;
-    let one = installed(fresh, 1);
-    let two = installed(one, 2);
-    let three = installed(two, 3);
-    let full = filled(three, rows, text);
+    let full = filled(installed(fresh), rows, text);
     let profile = [0xFF];
     let arrived = full.profile(&profile);
     arrived.card
@@ -144,111 +170,71 @@ fn handed(card: Card, out: &mut [u8]) -> usize
     }
 }
 
-// The command as it is, and damaged.
-fn tell(out: &mut [u8], n: usize)
-    requires { ⌜ (n ≤ 255) × (256 ≤ length (now out)) ⌝ }
+// The command that is due as it is, and damaged.
+fn tell(card: Card)
+    requires { ⌜ Left card ⌝ }
 {
+    let mut out = [0u8; 256];
+    let n = handed(card, &mut out);
     put(b"menu of ");
     io::print_decimal(STDOUT_FILENO, n as u64);
     put(b" bytes: ");
     say(&out[..n]);
-    if n == 0 {
-        return;
+    if 0 < n {
+        damage::tell(&mut out, n);
     }
-    let less = n - 1;
-    let more = n + 1;
-    damage::told(b"a byte less", damage::whole(&out[..less]));
-    damage::told(b"a byte behind", damage::behind(&mut out[..more], n));
-    damage::tell_kinds(&mut out[..n]);
 }
 
-// A menu of so many rows.
-fn try_menu(title: &[u8], rows: u8, text: &[u8]) {
-    let mut out = [0u8; 256];
-    let card = begun(title, rows, text);
-    let n = handed(card, &mut out);
-    tell(&mut out, n);
+// A menu of so many rows, with so many bytes of a title and of a text.
+fn try_menu(titled: usize, rows: u8, each: usize)
+    requires { ⌜ (titled ≤ 20) × (each ≤ 15) ⌝ }
+{
+    let title = *b"ABCDEFGHIJKLMNOPQRST";
+    let text = *b"abcdefghijklmno";
+    tell(begun(&title[..titled], rows, &text[..each]));
 }
 
 // A menu of no rows: the only row goes while the menu is due.
 fn try_none(title: &[u8]) {
-    let mut out = [0u8; 256];
-    let card = begun(title, 1, title);
-    let left = emptied(card);
-    let n = handed(left, &mut out);
-    tell(&mut out, n);
+    tell(emptied(begun(title, 1, title)));
 }
 
-// A menu written by hand.
-fn try_written(name: &[u8], command: &[u8]) {
-    put(name);
-    put(b": ");
-    say(command);
-}
-
-// Written by hand: two menus that a card can write, and items that no menu has.
-fn try_items() {
-    try_written(
-        b"no items",
-        b"\xD0\x0D\x81\x03\x01\x25\x00\x82\x02\x81\x82\x85\x00\x8F\x00",
-    );
-    try_written(
-        b"equal titles",
-        b"\xD0\x13\x81\x03\x01\x25\x00\x82\x02\x81\x82\x85\x00\x8F\x02\x01a\x8F\x02\x02a",
-    );
-    try_written(
-        b"identifier twice",
-        b"\xD0\x13\x81\x03\x01\x25\x00\x82\x02\x81\x82\x85\x00\x8F\x02\x01a\x8F\x02\x01b",
-    );
-}
-
-// Items with no bytes, or with no text.
-fn try_empty_items() {
-    try_written(
-        b"item with length 0 behind an item",
-        b"\xD0\x11\x81\x03\x01\x25\x00\x82\x02\x81\x82\x85\x00\x8F\x02\x01a\x8F\x00",
-    );
-    try_written(
-        b"item with length 0 before an item",
-        b"\xD0\x11\x81\x03\x01\x25\x00\x82\x02\x81\x82\x85\x00\x8F\x00\x8F\x02\x01a",
-    );
-    try_written(
-        b"two items with length 0",
-        b"\xD0\x0F\x81\x03\x01\x25\x00\x82\x02\x81\x82\x85\x00\x8F\x00\x8F\x00",
-    );
-    try_written(
-        b"item with no text",
-        b"\xD0\x0E\x81\x03\x01\x25\x00\x82\x02\x81\x82\x85\x00\x8F\x01\x01",
-    );
-    try_written(
-        b"item with no text behind an item",
-        b"\xD0\x12\x81\x03\x01\x25\x00\x82\x02\x81\x82\x85\x00\x8F\x02\x01a\x8F\x01\x02",
-    );
-    try_written(
-        b"item with identifier 0",
-        b"\xD0\x0F\x81\x03\x01\x25\x00\x82\x02\x81\x82\x85\x00\x8F\x02\x00a",
-    );
-    try_written(
-        b"no item element",
-        b"\xD0\x0B\x81\x03\x01\x25\x00\x82\x02\x81\x82\x85\x00",
-    );
-    try_written(
-        b"no items, with help",
-        b"\xD0\x0D\x81\x03\x01\x25\x80\x82\x02\x81\x82\x85\x00\x8F\x00",
-    );
+// Menus written by hand: a name, a line feed and the command, which is one element.
+fn try_written(s: &[u8]) {
+    let mut at: usize = 0;
+    while at < s.len() {
+        let mark = line_end(s, at);
+        let end = damage::past(s, mark + 1);
+        if s.len() < end {
+            return;
+        }
+        put(&s[at..mark]);
+        put(b": ");
+        say(&s[mark + 1..end]);
+        at = end;
+    }
 }
 
 fn main() {
-    let title = *b"ABCDEFGHIJKLMNOPQRST";
-    let text = *b"abcdefghijklmno";
-    try_menu(&title[..0], 1, &text[..1]);
-    try_menu(&title[..20], 1, &text[..15]);
-    try_menu(&title[..0], 12, &text[..1]);
-    try_menu(&title[..20], 12, &text[..15]);
-    try_menu(&title[..8], 6, &text[..15]);
-    try_menu(&title[..9], 6, &text[..15]);
-    try_none(&title[..1]);
-    try_none(&title[..15]);
-    try_items();
-    try_empty_items();
+    try_menu(0, 1, 1);
+    try_menu(20, 1, 15);
+    try_menu(0, 12, 1);
+    try_menu(20, 12, 15);
+    try_menu(8, 6, 15);
+    try_menu(9, 6, 15);
+    try_none(b"A");
+    try_none(b"ABCDEFGHIJKLMNO");
+    try_written(
+        b"no items\n\xD0\x0D\x81\x03\x01\x25\x00\x82\x02\x81\x82\x85\x00\x8F\x00\
+          equal titles\n\xD0\x13\x81\x03\x01\x25\x00\x82\x02\x81\x82\x85\x00\x8F\x02\x01a\x8F\x02\x02a\
+          identifier twice\n\xD0\x13\x81\x03\x01\x25\x00\x82\x02\x81\x82\x85\x00\x8F\x02\x01a\x8F\x02\x01b\
+          item with length 0 behind an item\n\xD0\x11\x81\x03\x01\x25\x00\x82\x02\x81\x82\x85\x00\x8F\x02\x01a\x8F\x00\
+          item with length 0 before an item\n\xD0\x11\x81\x03\x01\x25\x00\x82\x02\x81\x82\x85\x00\x8F\x00\x8F\x02\x01a\
+          two items with length 0\n\xD0\x0F\x81\x03\x01\x25\x00\x82\x02\x81\x82\x85\x00\x8F\x00\x8F\x00\
+          item with no text\n\xD0\x0E\x81\x03\x01\x25\x00\x82\x02\x81\x82\x85\x00\x8F\x01\x01\
+          item with no text behind an item\n\xD0\x12\x81\x03\x01\x25\x00\x82\x02\x81\x82\x85\x00\x8F\x02\x01a\x8F\x01\x02\
+          item with identifier 0\n\xD0\x0F\x81\x03\x01\x25\x00\x82\x02\x81\x82\x85\x00\x8F\x02\x00a\
+          no item element\n\xD0\x0B\x81\x03\x01\x25\x00\x82\x02\x81\x82\x85\x00\
+          no items, with help\n\xD0\x0D\x81\x03\x01\x25\x80\x82\x02\x81\x82\x85\x00\x8F\x00",
+    );
 }

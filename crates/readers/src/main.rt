@@ -85,125 +85,152 @@ fn put_bytes(s: &[u8]) {
     }
 }
 
-fn say_envelope(s: &[u8]) {
-    let e = envelopes::read_envelope(s);
+// Writes the line of a text at a place, counted from 0.
+fn put_line(text: &[u8], place: usize) {
+    let mut line: usize = 0;
+    let mut at: usize = 0;
+    while at < text.len() {
+        let end = end_of(text, at, b'\n');
+        if line == place {
+            put(&text[at..end]);
+            return;
+        }
+        line += 1;
+        at = end + 1;
+    }
+}
+
+fn put_named(names: &[u8], place: usize, b: u8) {
+    put_line(names, place);
+    put_byte(b);
+}
+
+// The second line of two where the test holds, else the first.
+fn put_choice(lines: &[u8], second: bool) {
+    if second {
+        put_line(lines, 1);
+    } else {
+        put_line(lines, 0);
+    }
+}
+
+fn put_envelope(e: Envelope, names: &[u8]) {
     match e {
         Envelope::Menu { item, help } => {
-            if help {
-                put(b"help ");
-            } else {
-                put(b"menu ");
-            }
+            put_choice(names, help);
             put_byte(item);
         }
-        Envelope::Call => put(b"call"),
-        Envelope::Download { code } => {
-            put(b"download ");
-            put_byte(code);
-        }
-        Envelope::Expiry { timer } => {
-            put(b"expiry ");
-            put_byte(timer);
-        }
-        Envelope::Unrecognized => put(b"unrecognized"),
-        Envelope::Malformed => put(b"malformed"),
+        Envelope::Call => put_line(names, 2),
+        Envelope::Download { code } => put_named(names, 3, code),
+        Envelope::Expiry { timer } => put_named(names, 4, timer),
+        Envelope::Unrecognized => put_line(names, 5),
+        Envelope::Malformed => put_line(names, 6),
     }
-    if envelopes::is_bad(e) {
-        put(b", refused");
-    } else {
-        put(b", taken");
-    }
-    put(b", content ");
+}
+
+fn say_envelope(s: &[u8]) {
+    let e = envelopes::read_envelope(s);
+    put_envelope(
+        e,
+        b"menu \nhelp \ncall\ndownload \nexpiry \nunrecognized\nmalformed\n",
+    );
+    put_choice(
+        b", taken, content \n, refused, content \n",
+        envelopes::is_bad(e),
+    );
     put_bytes(envelopes::content(s));
 }
 
-fn say_command(s: &[u8]) {
-    let c = envelopes::read_command(s);
+fn put_command(c: Command, names: &[u8]) {
     match c {
-        Command::Plain { kind } => {
-            put(b"type ");
-            put_byte(kind);
+        Command::Plain { kind } => put_named(names, 0, kind),
+        Command::Timer { timer } => put_named(names, 1, timer),
+        Command::Malformed => put_line(names, 2),
+    }
+}
+
+fn say_command(s: &[u8]) {
+    put_command(envelopes::read_command(s), b"type \ntimer \nmalformed\n");
+}
+
+fn put_outer(o: Outer, names: &[u8]) {
+    match o {
+        Outer::Tlv { tag, start } => {
+            put_named(names, 0, tag);
+            put_line(names, 1);
+            put_place(start);
         }
-        Command::Timer { timer } => {
-            put(b"timer ");
-            put_byte(timer);
-        }
-        Command::Malformed => put(b"malformed"),
+        Outer::Malformed => put_line(names, 2),
     }
 }
 
 fn say_outer(s: &[u8]) {
-    let o = tlv::outer(s);
-    match o {
-        Outer::Tlv { tag, start } => {
-            put(b"tag ");
-            put_byte(tag);
-            put(b", value at ");
-            put_place(start);
+    put_outer(tlv::outer(s), b"tag \n, value at \nmalformed\n");
+}
+
+fn put_found(f: Found, names: &[u8]) {
+    match f {
+        Found::At(value) => {
+            put_line(names, 0);
+            put_place(value.start);
+            put_line(names, 1);
+            put_place(value.len);
         }
-        Outer::Malformed => put(b"malformed"),
+        Found::Nothing => put_line(names, 2),
     }
 }
 
 fn say_search(s: &[u8], tag: u16, occurrence: usize) {
-    if tlv::has(s, tag, occurrence) {
-        put(b"yes ");
-    } else {
-        put(b"no ");
-    }
+    put_choice(b"no \nyes \n", tlv::has(s, tag, occurrence));
     put_bytes(tlv::find(s, tag, occurrence));
-    let f = tlv::locate(s, tag, occurrence);
-    match f {
-        Found::At(value) => {
-            put(b", at ");
-            put_place(value.start);
-            put(b" length ");
-            put_place(value.len);
-        }
-        Found::Nothing => put(b", nothing"),
-    }
+    put_found(
+        tlv::locate(s, tag, occurrence),
+        b", at \n length \n, nothing\n",
+    );
 }
 
 // The name that document 01 gives the event at a place.
 fn put_event(place: u8) {
-    match place {
-        Kind::PROFILE_DOWNLOAD => put(b"profile download"),
-        Kind::MENU_SELECTION => put(b"menu selection"),
-        Kind::HELP_REQUEST => put(b"menu selection help request"),
-        Kind::CALL_CONTROL => put(b"call control"),
-        Kind::TIMER_EXPIRATION => put(b"timer expiration"),
-        Kind::MT_CALL => put(b"MT call"),
-        Kind::CALL_CONNECTED => put(b"call connected"),
-        Kind::CALL_DISCONNECTED => put(b"call disconnected"),
-        Kind::LOCATION_STATUS => put(b"location status"),
-        Kind::USER_ACTIVITY => put(b"user activity"),
-        Kind::IDLE_SCREEN => put(b"idle screen"),
-        Kind::CARD_READER_STATUS => put(b"card reader status"),
-        Kind::LANGUAGE_SELECTION => put(b"language selection"),
-        Kind::BROWSER_TERMINATION => put(b"browser termination"),
-        Kind::ACCESS_TECHNOLOGY => put(b"access technology (single)"),
-        Kind::DISPLAY_PARAMETERS => put(b"display parameters"),
-        Kind::NETWORK_SEARCH_MODE => put(b"network search mode"),
-        Kind::BROWSING_STATUS => put(b"browsing status"),
-        Kind::UNRECOGNIZED_ENVELOPE => put(b"unrecognized envelope"),
-        Kind::HANDLER_AVAILABLE => put(b"proactive handler available"),
-        _ => put(b"no event"),
+    put_line(
+        b"profile download\n\
+          menu selection\n\
+          menu selection help request\n\
+          call control\n\
+          timer expiration\n\
+          MT call\n\
+          call connected\n\
+          call disconnected\n\
+          location status\n\
+          user activity\n\
+          idle screen\n\
+          card reader status\n\
+          language selection\n\
+          browser termination\n\
+          access technology (single)\n\
+          display parameters\n\
+          network search mode\n\
+          browsing status\n\
+          unrecognized envelope\n\
+          proactive handler available\n",
+        place as usize,
+    );
+}
+
+fn put_kind(kind: Kind, names: &[u8]) {
+    match kind {
+        Kind::Event(place) => put_event(place),
+        Kind::Issuer => put_line(names, 0),
+        Kind::Reserved => put_line(names, 1),
+        Kind::Unsupported => put_line(names, 2),
     }
 }
 
 // The kind, the refusal that set event gives for it, and whether call control's owner is asked for.
 fn say_kind(kind: Kind) {
-    match kind {
-        Kind::Event(place) => put_event(place),
-        Kind::Issuer => put(b"issuer"),
-        Kind::Reserved => put(b"reserved"),
-        Kind::Unsupported => put(b"unsupported"),
-    }
+    put_kind(kind, b"issuer\nreserved\nunsupported\n");
     put(b", refusal ");
     put_byte(events::refusal_of(kind));
-    if events::is_control(kind) {
-        put(b", one owner");
-    }
+    put_choice(b"\n, one owner\n", events::is_control(kind));
 }
 
 fn number(high: u8, low: u8) -> u16 {
@@ -243,10 +270,10 @@ fn answer(line: &[u8], bytes: &mut [u8]) {
     if line.len() - mark < 3 {
         return;
     }
-    let n = unhex(&line[mark + 3..], bytes);
-    put(&line[..mark]);
-    put(b": ");
-    say(line[mark + 2], &bytes[..n]);
+    let letter = mark + 2;
+    let n = unhex(&line[letter + 1..], bytes);
+    put(&line[..letter]);
+    say(line[letter], &bytes[..n]);
     put(b"\n");
 }
 

@@ -1,4 +1,4 @@
--- What follows of a table of applets in its one form: what is read in a place, what a change of one applet stores, and that a
+-- What follows of a table of applets in its one form: what is read in a place, what the look-up gives, and that a
 -- stored table is in its one form again.
 -- Assumes nothing.
 use Prim.Native.Nat.{ℕ, _+_, _≤_, _<_}
@@ -6,22 +6,20 @@ use native.Mathlib.Omega.{arith}
 use mathlib.Core.Path.{_≡_, refl, sym, ap, _∙_}
 use mathlib.Core.Bool.{Bool, true, false}
 use mathlib.Core.List.{List, map}
-use lib.ListN.{length, take, drop, getD, set, List·getD-map}
-use lib.Seq.{take-all}
+use lib.ListN.{length, take, drop, getD, List·getD-map}
 use borrow.Author.Tests.{lt-ltb, le-ltb}
-use Rattle.lists.specs.Lists.{padded, indexOf, first, change, some?, keep}
-use Rattle.lists.proofs.Padded.{length-padded, get-padded, take-padded, getD-any, set-padded, copy-more}
-use Rattle.lists.proofs.Search.{some-is, first-is, first-none, change-is, change-none, change-same, length-change}
-use Rattle.lists.proofs.Mapped.{map-length, map-set, map-keep}
+use Rattle.lists.specs.Lists.{padded, indexOf, some?}
+use Rattle.lists.proofs.Padded.{length-padded, get-padded, take-padded, getD-any}
+use Rattle.lists.proofs.Search.{some-is, first-is, first-none}
+use Rattle.lists.proofs.Mapped.{map-length}
 use Rattle.lists.proofs.Walk.{some-pass, some-here, some-end}
 use Rattle.rules.specs.declared.Applet as held
 use Rattle.rules.specs.declared.Applets.{Applets}
-use Rattle.rules.specs.Holds.{Applet, Tables, withOneMore}
+use Rattle.rules.specs.Holds.{Applet, Tables}
 use Rattle.rules.specs.Applets.{hasNumber, nobody, present, applet}
 use Rattle.rules.specs.Held.{storedApplet, viewApplets, storedApplets, TidyApplets}
 use Rattle.registry.specs.declared.Looked.{Looked}
 use Rattle.registry.specs.Looks.{lookedUp}
-use Rattle.registry.specs.Counts.{countedOn}
 
 abbrev pub blank : held.Applet
 blank = storedApplet nobody
@@ -53,10 +51,6 @@ pub record Tried (s : Applets) (p : Applet → Bool) (i : ℕ) : Type 0 where
 
 pub tried-none : (s : Applets) (p : Applet → Bool) → Tried s p 0
 tried-none s p = record { within = omega arith; left = refl }
-
--- f of each, as it is held
-abbrev pub results : (Applet → Applet) → List Applet → List held.Applet
-results f l = map storedApplet (map f l)
 
 module _ (s : Applets) (tidy : TidyApplets s) where
   pub at-is : s .at ≡ padded 8 blank (map storedApplet (viewApplets s))
@@ -105,30 +99,6 @@ module _ (s : Applets) (tidy : TidyApplets s) where
     pub tried-all : (i : ℕ) → s .count ≤ i → Tried s p i → false ≡ some? p (viewApplets s)
     tried-all i h o = sym (o .left ∙ some-end p (viewApplets s) i (omega (arith, count-is)))
 
-  -- those held that pass a test
-  pub kept-is : (p : held.Applet → Bool) → keep p (take (s .count) (s .at)) ≡ map storedApplet (keep (λ (x : Applet). p (storedApplet x)) (viewApplets s))
-  kept-is p = ap (keep p) held-is ∙ sym (map-keep storedApplet p (viewApplets s))
-
-  -- a loop that stores f of each, one after the other
-  module _ (f : Applet → Applet) where
-    results-long : length (results f (viewApplets s)) ≡ s .count
-    results-long = map-length storedApplet (map f (viewApplets s)) ∙ map-length f (viewApplets s) ∙ sym count-is
-
-    pub store-more
-        : (at : List held.Applet) (i : ℕ) (r : held.Applet)
-        → i < s .count
-        → r ≡ storedApplet (f (getD (viewApplets s) i nobody))
-        → at ≡ padded 8 blank (take i (results f (viewApplets s)))
-        → set at i r ≡ padded 8 blank (take (i + 1) (results f (viewApplets s)))
-    store-more at i r h e o =
-        let n : i < length (results f (viewApplets s)) = omega (arith, results-long) in
-        let g : r ≡ getD (results f (viewApplets s)) i (storedApplet (f nobody)) = e ∙ sym (List·getD-map storedApplet (map f (viewApplets s)) i (f nobody) ∙ ap storedApplet (List·getD-map f (viewApplets s) i nobody)) in
-        rw g (copy-more 8 blank (results f (viewApplets s)) at i (storedApplet (f nobody)) n (omega (arith, tidy .few)) o)
-
-    pub store-all : (at : List held.Applet) (i : ℕ) → s .count ≤ i → at ≡ padded 8 blank (take i (results f (viewApplets s))) → _≡_ {A = Applets} (record { at = at; count = s .count }) (storedApplets (map f (viewApplets s)))
-    store-all at i h o =
-        stores (map f (viewApplets s)) (o ∙ ap (padded 8 blank) (take-all i (results f (viewApplets s)) (omega (arith, results-long)))) (count-is ∙ sym (map-length f (viewApplets s)))
-
   -- the look-up by the index of the search
   module _ (n i : ℕ) (is : i ≡ indexOf (hasNumber n) (viewApplets s)) where
     pub looked-there : (d : held.Applet) → i < s .count → _≡_ {A = Looked} (record { there = true; at = i; applet = getD (s .at) i d }) (lookedUp n (viewApplets s))
@@ -149,33 +119,6 @@ module _ (s : Applets) (tidy : TidyApplets s) where
         same : {t u : Bool} {x y : Applet} → t ≡ u → x ≡ y → _≡_ {A = Looked} (record { there = t; at = i; applet = storedApplet x }) (record { there = u; at = indexOf (hasNumber n) (viewApplets s); applet = storedApplet y })
         same p q = rw (p, q, is) refl
 
-  -- one applet changed, by the look-up
-  module _ (n : ℕ) (f : Applet → Applet) (x : Looked) (is : x ≡ lookedUp n (viewApplets s)) where
-    place-is : x .at ≡ indexOf (hasNumber n) (viewApplets s)
-    place-is = ap (λ (y : Looked). y .at) is
-
-    pub with-none : s .count ≤ x .at → s ≡ storedApplets (change (hasNumber n) f (viewApplets s))
-    with-none h = tidy .form ∙ ap storedApplets (sym (change-none (hasNumber n) f (viewApplets s) (omega (arith, count-is, place-is))))
-
-    pub with-one
-        : (a : held.Applet)
-        → a ≡ storedApplet (f (first (hasNumber n) nobody (viewApplets s)))
-        → x .at < s .count
-        → _≡_ {A = Applets} (record { at = set (s .at) (x .at) a; count = s .count }) (storedApplets (change (hasNumber n) f (viewApplets s)))
-    with-one a e h =
-        let l = viewApplets s in
-        let i = indexOf (hasNumber n) l in
-        let k : i < length (map storedApplet l) = omega (arith, held-long, place-is) in
-        let c : set l i (f (first (hasNumber n) nobody l)) ≡ change (hasNumber n) f l = ap (λ (y : Applet). set l i (f y)) (first-is (hasNumber n) l nobody) ∙ sym (change-is (hasNumber n) f l nobody) in
-        stores (change (hasNumber n) f l)
-        (ap (λ (r : List held.Applet). set r (x .at) a) at-is
-        ∙ ap (λ (j : ℕ). set (padded 8 blank (map storedApplet l)) j a) place-is
-        ∙ set-padded 8 blank (map storedApplet l) i a k
-        ∙ ap (λ (y : held.Applet). padded 8 blank (set (map storedApplet l) i y)) e
-        ∙ ap (padded 8 blank) (sym (map-set storedApplet l i (f (first (hasNumber n) nobody l))))
-        ∙ ap (λ (r : List Applet). padded 8 blank (map storedApplet r)) c)
-        (count-is ∙ sym (length-change (hasNumber n) f l))
-
 -- the look-up in the words of the rules
 module _ (t : Tables) (n : ℕ) (x : Looked) (is : x ≡ lookedUp n (t .applets)) where
   pub there-is : x .there ≡ present t n
@@ -185,8 +128,3 @@ module _ (t : Tables) (n : ℕ) (x : Looked) (is : x ≡ lookedUp n (t .applets)
   pub applet-is : x .applet ≡ storedApplet (applet t n)
   unfolding applet
   applet-is = ap (λ (y : Looked). y .applet) is
-
--- below 255 one entry more counts
-pub counted : (n : ℕ) (l : List Applet) → first (hasNumber n) nobody l .made < 255 → change (hasNumber n) countedOn l ≡ change (hasNumber n) withOneMore l
-unfolding countedOn
-counted n l h = change-same (hasNumber n) countedOn withOneMore l nobody (rw (lt-ltb (first (hasNumber n) nobody l .made) 255 h) refl)

@@ -1,3 +1,2 @@
--- What the look-up gives, and how entries made are counted.
+-- What the look-up gives.
 pub mod Looks
-pub mod Counts

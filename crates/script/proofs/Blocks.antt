@@ -10,9 +10,10 @@ use lib.ListN.{length, take, drop, length-drop, take-append-drop}
 use lib.Seq.{length-take-le, take-append-le, drop-append-le, take-at, drop-at}
 use borrow.Author.Count.{below-more}
 use borrow.Rule.Slice.PartMut.{putMid, postOf}
-use Rattle.script.specs.declared.Outcome.{Outcome}
-use Rattle.script.specs.declared.Outcome.the-variants as outcome
-use Rattle.script.specs.Records.{Made, madeOf, Taken, Standing}
+use Rattle.script_line.specs.declared.Outcome.{Outcome}
+use Rattle.script_line.specs.declared.Outcome.the-variants as outcome
+use Rattle.script_line.specs.Records.{Made, Taken}
+use Rattle.script.specs.Texts.{madeOf, Standing}
 
 -- a block of the front does not depend on what is behind it
 front : (p z : List ℕ) (j : ℕ) → j + 24 ≤ length p → take 24 (drop j (p ++ z)) ≡ take 24 (drop j p)

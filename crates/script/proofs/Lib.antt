@@ -1,4 +1,2 @@
--- How choices are made, and the laws of words, records and texts.
-pub mod Pick
-pub mod Laws
+-- Records one behind the other.
 pub mod Blocks

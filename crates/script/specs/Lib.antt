@@ -1,3 +1,2 @@
--- What the contracts cite: words and numbers, and records of the floor program.
-pub mod Words
-pub mod Records
+-- What the contracts cite: texts composed.
+pub mod Texts

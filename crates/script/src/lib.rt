@@ -1,76 +1,14 @@
-// A script for the floor program: each line of a text becomes one record of 24 bytes,
-// letter, applet, count, 20 argument bytes and 00.
-mod fields;
-mod line;
-mod text;
-mod words;
-
-pub use line::record;
-pub use text::compose;
-
-// Why a line is no record.
-pub enum Cause {
-    UnknownLetter,
-    MissingApplet,
-    MissingNumber,
-    BadNumber,
-    LargeNumber,
-    BadByte,
-    ManyBytes,
-    OpenQuote,
-    MissingSpace,
-    MissingHelp,
-    BadHelp,
-    ExtraWord,
-    LongLine,
-}
-
-// What a line gives.
-pub enum Outcome {
-    Record,
-    Blank,
-    Bad(Cause),
-}
-
-// What follows a letter and its applet.
-pub enum Kind {
-    Install,
-    Entry,
-    Event,
-    Nothing,
-}
-
-// What follows a letter: an applet and more, bytes alone, or nothing.
-pub enum Form {
-    Applet(Kind),
-    Bytes,
-    Alone,
-    Unknown,
-}
-
-// A number, and why there is none.
-pub enum Number {
-    Value(u32),
-    Bad(Cause),
-}
-
-// How many argument bytes stand in a record, or why there are none.
-pub enum Count {
-    Of(usize),
-    Bad(Cause),
-}
-
-// How many argument bytes stand in a record once one more item of the line was read, and where the item ends.
-pub enum Item {
-    Next { count: usize, next: usize },
-    Bad(Cause),
-}
-
-// An applet's number and where it ends.
-pub enum Applet {
-    Named { applet: u8, next: usize },
-    Bad(Cause),
-}
+// A script for the floor program: a text of many lines becomes records, one behind the other.
+// A line ends at a line feed; a carriage return before that does not count.
+use script_line::Cause;
+use script_line::Outcome;
+use script_line::record;
+ghost use mathlib.Core.Path.{_≡_};
+ghost use Prim.Native.Nat.{_≤_, _<_};
+ghost use lib.ListN.{length};
+ghost use Rattle.script_line.specs.Words.{Within};
+ghost use Rattle.script_line.specs.Records.{Made, Taken};
+ghost use Rattle.script.specs.Texts.{Composed, madeOf};
 
 // Where the composing of a text stopped.
 pub enum Stop {
@@ -85,4 +23,126 @@ pub struct Progress {
     pub records: usize,
     pub lines: usize,
     pub stop: Stop,
+}
+
+// Where the line that starts here ends: at its line feed, or at the end of the text.
+fn line_end(text: &[u8], from: usize) -> usize
+    requires { ⌜ from ≤ length (now text) ⌝ }
+    ensures { λ r. ⌜ Within from r (now (text .entry)) ⌝ }
+{
+    let mut at = from;
+    while at < text.len() {
+        if text[at] == b'\n' {
+            return at;
+        }
+        at += 1;
+    }
+    at
+}
+
+// A line without the carriage return at its end.
+fn trimmed(line: &[u8]) -> usize
+    ensures { λ r. ⌜ r ≤ length (now (line .entry)) ⌝ }
+{
+    let n = line.len();
+    if n == 0 {
+        return 0;
+    }
+    if line[n - 1] == b'\r' {
+        return n - 1;
+    }
+    n
+}
+
+// The record of a line of at most 200 bytes.
+fn line_record(line: &[u8], out: &mut [u8]) -> Outcome
+    requires { ⌜ length (now out) ≡ 24 ⌝ }
+    ensures { λ r. ⌜ Made r (Taken (now (out .exit))) ⌝ }
+{
+    if 200 < line.len() {
+        return Outcome::Bad(Cause::LongLine);
+    }
+    let n = trimmed(line);
+    record(&line[..n], out)
+}
+
+// Where the next line starts.
+fn behind(text: &[u8], end: usize) -> usize
+    requires { ⌜ end ≤ length (now text) ⌝ }
+    ensures { λ r. ⌜ Within end r (now (text .entry)) × (end < length (now (text .entry)) → end < r) ⌝ }
+{
+    if end < text.len() {
+        return end + 1;
+    }
+    end
+}
+
+// What a line that may still go on says: nothing yet, unless it is too long already.
+fn unfinished(left: usize) -> Stop {
+    if 200 < left {
+        return Stop::Bad(Cause::LongLine);
+    }
+    Stop::End
+}
+
+// How many records a line gave.
+fn made(outcome: Outcome) -> usize
+    ensures { λ r. ⌜ r ≡ madeOf outcome ⌝ }
+{
+    match outcome {
+        Outcome::Record => 1,
+        Outcome::Blank => 0,
+        Outcome::Bad(_) => 0,
+    }
+}
+
+// Why composing ends where no line is bad: nothing is left of the text, or there is no room for a record.
+fn ended(left: usize) -> Stop {
+    if left == 0 {
+        return Stop::End;
+    }
+    Stop::Full
+}
+
+// The records of a text's lines, one behind the other, up to the first line that is bad or for which `out` has no room.
+// A last line with no line feed counts only where the text is the last.
+pub fn compose(text: &[u8], out: &mut [u8], last: bool) -> Progress
+    ensures { λ r. ⌜ Composed r (now (text .entry)) (now (out .exit)) ⌝ }
+{
+    let mut at = 0;
+    let mut records = 0;
+    let mut lines = 0;
+    while at < text.len() && 24 <= out.len() - records * 24 {
+        let end = line_end(text, at);
+        if end == text.len() {
+            if !last {
+                return Progress {
+                    at,
+                    records,
+                    lines,
+                    stop: unfinished(end - at),
+                };
+            }
+        }
+        let wrote = records * 24;
+        let past = wrote + 24;
+        let outcome = line_record(&text[at..end], &mut out[wrote..past]);
+        if let Outcome::Bad(c) = outcome {
+            return Progress {
+                at,
+                records,
+                lines,
+                stop: Stop::Bad(c),
+            };
+        }
+        records += made(outcome);
+        lines += 1;
+        at = behind(text, end);
+    }
+    Progress {
+        at,
+        records,
+        lines,
+        stop: ended(text.len() - at),
+    }
 }

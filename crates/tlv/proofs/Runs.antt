@@ -15,7 +15,7 @@ use Rattle.rules.specs.declared.Span.{Span}
 use Rattle.rules.specs.declared.Found.{Found}
 use Rattle.rules.specs.declared.Found.the-variants.{At, Nothing}
 use Rattle.rules.specs.Bytes.{elementAt, Run, done, broken, more, grow, runBy, runAt, nth, found}
-use Rattle.tlv.proofs.Ends.{element-inside}
+use Rattle.elements.proofs.Ends.{element-inside}
 
 -- what follows an element matters only where one stands
 grow-same : (e : Element) (f g : ℕ → Run) → ((number b n next : ℕ) → e ≡ Whole number b n next → f next ≡ g next) → grow e f ≡ grow e g

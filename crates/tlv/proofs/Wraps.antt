@@ -14,7 +14,7 @@ use Rattle.rules.specs.declared.Len.the-variants.{Known, Bad}
 use Rattle.rules.specs.declared.Outer.{Outer}
 use Rattle.rules.specs.declared.Outer.the-variants.{Tlv, Malformed}
 use Rattle.rules.specs.Bytes.{lengthAt, runAt, fills, rest, outerBy, outerOf}
-use Rattle.tlv.proofs.Ends.{length-within}
+use Rattle.elements.proofs.Ends.{length-within}
 
 -- the part of a slice from a position on, as the slice's rule gives it, is the rest of the bytes
 pub rest-is : (s : List ℕ) (at : ℕ) → take (length s - at) (drop at s) ≡ rest s at

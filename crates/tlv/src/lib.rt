@@ -1,101 +1,14 @@
-// Reads runs of elements, each a tag, a length and that many value bytes, and the outer tag and length around one.
+// Reads runs of elements, and the outer tag and length around one.
 // A position is an index into the caller's bytes, and a value is handed back as a part of them: nothing is copied.
+use elements::element_at;
+use elements::length_at;
 use rules::Element;
 use rules::Found;
 use rules::Len;
 use rules::Outer;
 use rules::Span;
 ghost use mathlib.Core.Path.{_≡_};
-ghost use Prim.Native.Nat.{_<_};
-ghost use lib.ListN.{length};
-ghost use Rattle.rules.specs.Bytes.{tagSize, tagNumber, lengthAt, elementAt, found, isFound, partOf, runAt, fills, outerOf};
-
-// How many bytes a tag with this first byte takes; 0 if it starts none.
-fn tag_size(first: u8) -> usize
-    ensures { λ r. ⌜ r ≡ tagSize first ⌝ }
-{
-    match first {
-        0x00 => 0,
-        0x80 => 0,
-        0xFF => 0,
-        0x7F => 3,
-        _ => 1,
-    }
-}
-
-// The number that the tag at a position is compared by; 0, which is never looked for, for a three-byte tag.
-fn tag_number(s: &[u8], at: usize) -> u16
-    requires { ⌜ at < length (now s) ⌝ }
-    ensures { λ r. ⌜ r ≡ tagNumber (now (s .entry)) at ⌝ }
-{
-    let first = s[at];
-    if first == 0x7F {
-        0
-    } else {
-        (first % 128) as u16
-    }
-}
-
-// The length at a position: 00..7F, or 81 followed by 80..FF.
-fn length_at(s: &[u8], at: usize) -> Len
-    ensures { λ r. ⌜ r ≡ lengthAt (now (s .entry)) at ⌝ }
-{
-    if s.len() <= at {
-        return Len::Bad;
-    }
-    let first = s[at];
-    if first < 0x80 {
-        return Len::Known {
-            len: first,
-            next: at + 1,
-        };
-    }
-    if first != 0x81 {
-        return Len::Bad;
-    }
-    if s.len() <= at + 1 {
-        return Len::Bad;
-    }
-    let second = s[at + 1];
-    if second < 0x80 {
-        return Len::Bad;
-    }
-    Len::Known {
-        len: second,
-        next: at + 2,
-    }
-}
-
-// The element at a position.
-fn element_at(s: &[u8], at: usize) -> Element
-    ensures { λ r. ⌜ r ≡ elementAt (now (s .entry)) at ⌝ }
-{
-    if s.len() <= at {
-        return Element::End;
-    }
-    let first = s[at];
-    let size = tag_size(first);
-    if size == 0 {
-        return Element::Malformed;
-    }
-    let l = length_at(s, at + size);
-    match l {
-        Len::Known { len, next } => {
-            let n = len as usize;
-            let past = next + n;
-            if s.len() < past {
-                return Element::Malformed;
-            }
-            Element::Whole {
-                number: tag_number(s, at),
-                start: next,
-                len: n,
-                next: past,
-            }
-        }
-        Len::Bad => Element::Malformed,
-    }
-}
+ghost use Rattle.rules.specs.Bytes.{found, isFound, partOf, runAt, fills, outerOf};
 
 // Looks in a run for the element with this tag number that occurs so many-th, counted from 1; what follows it is not judged.
 pub fn locate(s: &[u8], tag: u16, occurrence: usize) -> Found

@@ -26,6 +26,9 @@ slice-aggregate-write-all c = search needs
 write-all-requires : tie.Need-write-all-requires
 write-all-requires c κs = search needs
 
+stopped-requires : tie.Need-stopped-requires
+stopped-requires c κs = search needs
+
 same-length : tie.Need-same-length
 same-length c = search needs
 
@@ -68,6 +71,9 @@ slice-aggregate-write-all-2 c = sym (length-take-le _ _ (c .before .before .befo
 write-all-requires-2 : tie.Need-write-all-requires-2
 write-all-requires-2 c κs = search needs
 
+stopped-requires-2 : tie.Need-stopped-requires-2
+stopped-requires-2 c κs = search needs
+
 same-length-2 : tie.Need-same-length-2
 same-length-2 c = search needs
 
@@ -105,6 +111,7 @@ turn-spec =
     read-requires
     slice-aggregate-write-all
     write-all-requires
+    stopped-requires
     same-length
     returns
     sub-count
@@ -119,6 +126,7 @@ turn-spec =
     slice-reshare-prefix-write-all
     slice-aggregate-write-all-2
     write-all-requires-2
+    stopped-requires-2
     same-length-2
     same-length-3
     returns-2

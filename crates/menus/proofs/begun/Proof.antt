@@ -16,14 +16,8 @@ fresh-requires c κs = search needs
 installed-requires : tie.Need-installed-requires
 installed-requires c κs = subst⁻¹ (λ (x : Changed). Left (x .card)) (c .before .fresh .ensures) (fresh-left _)
 
-installed-requires-2 : tie.Need-installed-requires-2
-installed-requires-2 c κs = c .installed .ensures
-
-installed-requires-3 : tie.Need-installed-requires-3
-installed-requires-3 c κs = c .installed2 .ensures
-
 filled-requires : tie.Need-filled-requires
-filled-requires c κs = c .installed3 .ensures
+filled-requires c κs = c .installed .ensures
 
 slice-aggregate-profile : tie.Need-slice-aggregate-profile
 slice-aggregate-profile c = search needs
@@ -41,8 +35,6 @@ begun-spec =
     (tie.spec
     fresh-requires
     installed-requires
-    installed-requires-2
-    installed-requires-3
     filled-requires
     slice-aggregate-profile
     profile-requires

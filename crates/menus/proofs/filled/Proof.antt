@@ -1,6 +1,10 @@
 -- `filled` meets its contract: each entry leaves a card that calls have left. Assumes nothing.
 use Prim.Native.Nat.{_≤_, _-_}
+use mathlib.Core.Path.{subst⁻¹}
+use Rattle.card.specs.declared.Numbered.{Numbered}
 use Rattle.card.specs.View.{Left}
+use Rattle.card.specs.Reply.{numberedBy}
+use Rattle.card.proofs.Left.{left-again}
 use borrow.Author.Needs.{needs}
 use Rattle.menus.proofs.filled.Statement.{statement}
 use Rattle.menus.proofs.filled.Tie as tie
@@ -14,11 +18,11 @@ abbrev μ-loop : tie.MeasureT-loop
 loop-holds : tie.Need-loop-holds Inv-loop μ-loop
 loop-holds c = (search needs, search needs)
 
-add-entered : tie.Need-add-entered Inv-loop μ-loop
-add-entered c = search needs
+add-new-entry : tie.Need-add-new-entry Inv-loop μ-loop
+add-new-entry c = search needs
 
-entered-requires : tie.Need-entered-requires Inv-loop μ-loop
-entered-requires c κs = c .before .loop .inv .1
+new-entry-requires : tie.Need-new-entry-requires Inv-loop μ-loop
+new-entry-requires c κs = c .before .loop .inv .1
 
 add-i : tie.Need-add-i Inv-loop μ-loop
 add-i c = search needs
@@ -27,7 +31,8 @@ loop-less : tie.Need-loop-less Inv-loop μ-loop
 loop-less c = search needs
 
 loop-again : tie.Need-loop-again Inv-loop μ-loop
-loop-again c = (search needs, search needs)
+unfolding numberedBy
+loop-again c = (search needs, subst⁻¹ (λ (x : Numbered). Left (x .card)) (c .before .new-entry .ensures) (left-again _ _ (c .before .before .before .loop .inv .1)))
 
 returns : tie.Need-returns Inv-loop μ-loop
 returns c = c .before .loop .inv .1
@@ -39,8 +44,8 @@ filled-spec =
     Inv-loop
     μ-loop
     loop-holds
-    add-entered
-    entered-requires
+    add-new-entry
+    new-entry-requires
     add-i
     loop-less
     loop-again

@@ -1,9 +1,15 @@
--- `tell` is safe: each part that is read or lent stands within the buffer. Assumes nothing.
+-- `tell` is safe: the command stands within the buffer. Assumes nothing.
 use mathlib.Core.Path.{sym}
 use lib.Seq.{length-take-le}
 use borrow.Author.Needs.{needs}
 use Rattle.menus.proofs.tell.Statement.{statement}
 use Rattle.menus.proofs.tell.Tie as tie
+
+slice-aggregate-handed : tie.Need-slice-aggregate-handed
+slice-aggregate-handed c = search needs
+
+handed-requires : tie.Need-handed-requires
+handed-requires c κs = search needs
 
 slice-aggregate-put : tie.Need-slice-aggregate-put
 slice-aggregate-put c = search needs
@@ -20,8 +26,8 @@ slice-aggregate-put-2 c = search needs
 put-requires-2 : tie.Need-put-requires-2
 put-requires-2 c κs = search needs
 
-slice-reshare-prefix-say : tie.Need-slice-reshare-prefix-say
-slice-reshare-prefix-say c = search needs
+array-share-prefix-out : tie.Need-array-share-prefix-out
+array-share-prefix-out c = search needs
 
 slice-aggregate-say : tie.Need-slice-aggregate-say
 slice-aggregate-say c = sym (length-take-le _ _ (search needs))
@@ -29,59 +35,14 @@ slice-aggregate-say c = sym (length-take-le _ _ (search needs))
 say-requires : tie.Need-say-requires
 say-requires c κs = search needs
 
-same-length : tie.Need-same-length
-same-length c = search needs
+slice-aggregate-tell : tie.Need-slice-aggregate-tell
+slice-aggregate-tell c = search needs
+
+tell-requires : tie.Need-tell-requires
+tell-requires c κs = search needs
 
 returns : tie.Need-returns
 returns c = search needs
-
-sub-less : tie.Need-sub-less
-sub-less c = search needs
-
-add-more : tie.Need-add-more
-add-more c = search needs
-
-slice-aggregate-told : tie.Need-slice-aggregate-told
-slice-aggregate-told c = search needs
-
-slice-reshare-prefix-whole : tie.Need-slice-reshare-prefix-whole
-slice-reshare-prefix-whole c = search needs
-
-slice-aggregate-whole : tie.Need-slice-aggregate-whole
-slice-aggregate-whole c = sym (length-take-le _ _ (search needs))
-
-whole-requires : tie.Need-whole-requires
-whole-requires c κs = search needs
-
-told-requires : tie.Need-told-requires
-told-requires c κs = search needs
-
-slice-aggregate-told-2 : tie.Need-slice-aggregate-told-2
-slice-aggregate-told-2 c = search needs
-
-slice-relend-prefix-behind : tie.Need-slice-relend-prefix-behind
-slice-relend-prefix-behind c = search needs
-
-slice-aggregate-behind : tie.Need-slice-aggregate-behind
-slice-aggregate-behind c = sym (length-take-le _ _ (search needs))
-
-behind-requires : tie.Need-behind-requires
-behind-requires c κs = search needs
-
-told-requires-2 : tie.Need-told-requires-2
-told-requires-2 c κs = search needs
-
-slice-relend-prefix-tell-kinds : tie.Need-slice-relend-prefix-tell-kinds
-slice-relend-prefix-tell-kinds c = search needs
-
-slice-aggregate-tell-kinds : tie.Need-slice-aggregate-tell-kinds
-slice-aggregate-tell-kinds c = sym (length-take-le _ _ (search needs))
-
-tell-kinds-requires : tie.Need-tell-kinds-requires
-tell-kinds-requires c κs = search needs
-
-same-length-2 : tie.Need-same-length-2
-same-length-2 c = search needs
 
 returns-2 : tie.Need-returns-2
 returns-2 c = search needs
@@ -90,30 +51,17 @@ pub tell-spec : {M : Type 1} → statement M
 tell-spec =
     tie.close
     (tie.spec
+    slice-aggregate-handed
+    handed-requires
     slice-aggregate-put
     put-requires
     print-decimal-requires
     slice-aggregate-put-2
     put-requires-2
-    slice-reshare-prefix-say
+    array-share-prefix-out
     slice-aggregate-say
     say-requires
-    same-length
+    slice-aggregate-tell
+    tell-requires
     returns
-    sub-less
-    add-more
-    slice-aggregate-told
-    slice-reshare-prefix-whole
-    slice-aggregate-whole
-    whole-requires
-    told-requires
-    slice-aggregate-told-2
-    slice-relend-prefix-behind
-    slice-aggregate-behind
-    behind-requires
-    told-requires-2
-    slice-relend-prefix-tell-kinds
-    slice-aggregate-tell-kinds
-    tell-kinds-requires
-    same-length-2
     returns-2)

@@ -1,5 +1,6 @@
 -- `readers::answer` hands on parts of the line and of the buffer.
 -- Assumes nothing.
+use mathlib.Core.Path.{sym}
 use lib.Seq.{length-take-le}
 use borrow.Author.Needs.{needs}
 use Rattle.readers.proofs.answer.Statement.{statement}
@@ -13,6 +14,9 @@ sub-if1 c = search needs
 
 returns : tie.Need-returns
 returns c = search needs
+
+add-letter : tie.Need-add-letter
+add-letter c = search needs
 
 add-unhex : tie.Need-add-unhex
 add-unhex c = search needs
@@ -30,19 +34,10 @@ unhex-requires : tie.Need-unhex-requires
 unhex-requires c κs = search needs
 
 slice-aggregate-put : tie.Need-slice-aggregate-put
-slice-aggregate-put c = search (length-take-le, needs)
+slice-aggregate-put c = sym (length-take-le _ _ (search needs))
 
 put-requires : tie.Need-put-requires
 put-requires c κs = search needs
-
-slice-aggregate-put-2 : tie.Need-slice-aggregate-put-2
-slice-aggregate-put-2 c = search needs
-
-put-requires-2 : tie.Need-put-requires-2
-put-requires-2 c κs = search needs
-
-add-say : tie.Need-add-say
-add-say c = search needs
 
 shared-slice-read-say : tie.Need-shared-slice-read-say
 shared-slice-read-say c = search needs
@@ -56,11 +51,11 @@ slice-aggregate-say c = search (length-take-le, needs)
 say-requires : tie.Need-say-requires
 say-requires c κs = search needs
 
-slice-aggregate-put-3 : tie.Need-slice-aggregate-put-3
-slice-aggregate-put-3 c = search needs
+slice-aggregate-put-2 : tie.Need-slice-aggregate-put-2
+slice-aggregate-put-2 c = search needs
 
-put-requires-3 : tie.Need-put-requires-3
-put-requires-3 c κs = search needs
+put-requires-2 : tie.Need-put-requires-2
+put-requires-2 c κs = search needs
 
 same-length : tie.Need-same-length
 same-length c = search needs
@@ -75,6 +70,7 @@ answer-spec =
     end-of-requires
     sub-if1
     returns
+    add-letter
     add-unhex
     sub-unhex
     part-unhex-start
@@ -82,14 +78,11 @@ answer-spec =
     unhex-requires
     slice-aggregate-put
     put-requires
-    slice-aggregate-put-2
-    put-requires-2
-    add-say
     shared-slice-read-say
     slice-reshare-prefix-say
     slice-aggregate-say
     say-requires
-    slice-aggregate-put-3
-    put-requires-3
+    slice-aggregate-put-2
+    put-requires-2
     same-length
     returns-2)

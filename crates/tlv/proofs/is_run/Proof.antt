@@ -5,7 +5,7 @@ use mathlib.Core.Path.{_≡_}
 use lib.ListN.{length}
 use borrow.Author.Needs.{needs}
 use Rattle.rules.specs.Bytes.{runAt, fills}
-use Rattle.tlv.proofs.Ends.{element-falls}
+use Rattle.elements.proofs.Ends.{element-falls}
 use Rattle.tlv.proofs.Runs.{run-case}
 use Rattle.tlv.proofs.is_run.Statement.{statement}
 use Rattle.tlv.proofs.is_run.Tie as tie

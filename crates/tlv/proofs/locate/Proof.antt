@@ -6,7 +6,7 @@ use lib.ListN.{length}
 use borrow.Author.Needs.{needs}
 use Rattle.lists.proofs.Picks.{picks}
 use Rattle.rules.specs.Bytes.{runAt, nth, found}
-use Rattle.tlv.proofs.Ends.{element-falls}
+use Rattle.elements.proofs.Ends.{element-falls}
 use Rattle.tlv.proofs.Runs.{run-case₂, nth-zeroth}
 use Rattle.tlv.proofs.locate.Statement.{statement}
 use Rattle.tlv.proofs.locate.Tie as tie

@@ -3,7 +3,7 @@
 use borrow.Author.Needs.{needs}
 use Rattle.lists.proofs.Picks.{picks, by-case₁}
 use Rattle.rules.specs.Bytes.{runAt, fills, outerOf, outerBy}
-use Rattle.tlv.proofs.Ends.{length-within}
+use Rattle.elements.proofs.Ends.{length-within}
 use Rattle.tlv.proofs.Wraps.{by-rest}
 use Rattle.tlv.proofs.outer.Statement.{statement}
 use Rattle.tlv.proofs.outer.Tie as tie

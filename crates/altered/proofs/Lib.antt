@@ -1,0 +1,2 @@
+-- One applet of the table changed.
+pub mod Changes

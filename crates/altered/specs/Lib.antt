@@ -1,0 +1,2 @@
+-- How entries made are counted.
+pub mod Counts

@@ -1,0 +1,2 @@
+-- Where lengths and elements end.
+pub mod Ends

@@ -1,0 +1,2 @@
+-- Loops over the table.
+pub mod Loops

@@ -1,0 +1,3 @@
+-- How choices are made, and the laws of words and records.
+pub mod Pick
+pub mod Laws

@@ -1,0 +1,3 @@
+-- What the contracts cite: words and numbers, and records of the floor program.
+pub mod Words
+pub mod Records
