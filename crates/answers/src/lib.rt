@@ -1,84 +1,86 @@
-// The lines of the answers: what each kind of answer of the card's calls shows.
+// The line of an answer, by what was asked for.
+use asks::Ask;
+use asks::Gift;
+use asks::first;
 use lines::Refusal;
 use lines::write_line;
-use rules::Called;
-use rules::Done;
-use rules::Given;
+use paper::Answer;
 ghost use mathlib.Core.List.{[]};
 ghost use Prim.Native.Nat.{_≤_};
 ghost use lib.ListN.{length, take};
 ghost use Rattle.lists.specs.Wrote.{Wrote};
-ghost use Rattle.rules.specs.Floor.{decimal, dash, lineOf};
-ghost use Rattle.rules.specs.Papers.{paperDone, paperGiven};
-ghost use Rattle.answers.specs.Shown.{shownGiven, shownCommand};
+ghost use Rattle.rules.specs.Floor.{lineOf};
+ghost use Rattle.lines.specs.Texts.{refusalText};
+ghost use Rattle.answers.specs.Shown.{answerLine, shownGift, lineBy};
 
-// The line of a record that made no call.
-pub fn write_no_call(buf: &mut [u8], number: u64, letter: u8) -> usize
+// A line that shows nothing but the refusal.
+fn write_plain(buf: &mut [u8], number: u64, letter: u8, refusal: Refusal) -> usize
     requires { ⌜ 540 ≤ length (now buf) ⌝ }
-    ensures { λ r. ⌜ Wrote (now (buf .entry)) 0 (lineOf number letter dash []) (now (buf .exit)) r ⌝ }
+    ensures { λ r. ⌜ Wrote (now (buf .entry)) 0 (lineOf number letter (refusalText refusal) []) (now (buf .exit)) r ⌝ }
 {
     let none = [0];
-    write_line(buf, number, letter, Refusal::NoCall, &none[..0])
+    write_line(buf, number, letter, refusal, &none[..0])
 }
 
-// The line of a refusal, or of an acceptance that shows nothing.
-fn write_plain(buf: &mut [u8], number: u64, letter: u8, refusal: u8) -> usize
+// The line of a call that gives a number; a system command stands at the front of out.
+fn write_gift(
+    buf: &mut [u8],
+    number: u64,
+    letter: u8,
+    gift: Gift,
+    answer: Answer,
+    out: &[u8],
+) -> usize
     requires { ⌜ 540 ≤ length (now buf) ⌝ }
-    ensures { λ r. ⌜ Wrote (now (buf .entry)) 0 (lineOf number letter (decimal refusal) []) (now (buf .exit)) r ⌝ }
+    ensures { λ r. ⌜ Wrote (now (buf .entry)) 0 (answerLine number letter answer (shownGift gift answer (now (out .entry)))) (now (buf .exit)) r ⌝ }
 {
-    let none = [0];
-    write_line(buf, number, letter, Refusal::Number(refusal), &none[..0])
-}
-
-// The line of a call that only does something.
-pub fn write_done(buf: &mut [u8], number: u64, letter: u8, answer: Done) -> usize
-    requires { ⌜ 540 ≤ length (now buf) ⌝ }
-    ensures { λ r. ⌜ Wrote (now (buf .entry)) 0 (lineOf number letter (decimal (paperDone answer .refusal)) []) (now (buf .exit)) r ⌝ }
-{
-    match answer {
-        Done::Accepted => write_plain(buf, number, letter, 0),
-        Done::Refused(refusal) => write_plain(buf, number, letter, refusal),
+    let refusal = answer.refusal;
+    if refusal != 0 {
+        return write_plain(buf, number, letter, Refusal::Number(refusal));
     }
-}
-
-// The line of a call that gives an identifier or a timer.
-pub fn write_given(buf: &mut [u8], number: u64, letter: u8, answer: Given) -> usize
-    requires { ⌜ 540 ≤ length (now buf) ⌝ }
-    ensures { λ r. ⌜ Wrote (now (buf .entry)) 0 (lineOf number letter (decimal (paperGiven answer .refusal)) (shownGiven answer)) (now (buf .exit)) r ⌝ }
-{
-    match answer {
-        Given::Number(given) => {
-            let one = [given];
-            write_line(buf, number, letter, Refusal::Number(0), &one)
+    let one = [answer.number];
+    match gift {
+        Gift::NewEntry => write_line(buf, number, letter, Refusal::Number(0), &one),
+        Gift::Allocate => write_line(buf, number, letter, Refusal::Number(0), &one),
+        Gift::SystemCommand => {
+            let n = answer.number as usize;
+            write_line(buf, number, letter, Refusal::Number(0), first(out, n))
         }
-        Given::Refused(refusal) => write_plain(buf, number, letter, refusal),
-    }
-}
-
-// The line of a system command, which stands at the front of out.
-pub fn write_command(buf: &mut [u8], number: u64, letter: u8, answer: Given, out: &[u8]) -> usize
-    requires { ⌜ (256 ≤ length (now out)) × (540 ≤ length (now buf)) ⌝ }
-    ensures { λ r. ⌜ Wrote (now (buf .entry)) 0 (lineOf number letter (decimal (paperGiven answer .refusal)) (shownCommand answer (now (out .entry)))) (now (buf .exit)) r ⌝ }
-{
-    match answer {
-        Given::Number(given) => {
-            let n = given as usize;
-            write_line(buf, number, letter, Refusal::Number(0), &out[..n])
-        }
-        Given::Refused(refusal) => write_plain(buf, number, letter, refusal),
     }
 }
 
 // The line of an arrival: those called, one byte each.
-pub fn write_called(buf: &mut [u8], number: u64, letter: u8, answer: Called) -> usize
+fn write_called(buf: &mut [u8], number: u64, letter: u8, answer: Answer) -> usize
     requires { ⌜ 540 ≤ length (now buf) ⌝ }
-    ensures { λ r. ⌜ Wrote (now (buf .entry)) 0 (lineOf number letter (decimal (answer .refusal)) (take (answer .count) (answer .at))) (now (buf .exit)) r ⌝ }
+    ensures { λ r. ⌜ Wrote (now (buf .entry)) 0 (answerLine number letter answer (take (answer .count) (answer .called))) (now (buf .exit)) r ⌝ }
+{
+    let refusal = answer.refusal;
+    if refusal != 0 {
+        return write_plain(buf, number, letter, Refusal::Number(refusal));
+    }
+    let called = answer.called;
+    let n = answer.count as usize;
+    write_line(buf, number, letter, Refusal::Number(0), first(&called, n))
+}
+
+// The line of what was asked for and answered, at the front of the buffer; how many bytes it has.
+pub fn write_answer(
+    buf: &mut [u8],
+    number: u64,
+    letter: u8,
+    ask: Ask,
+    answer: Answer,
+    out: &[u8],
+) -> usize
+    requires { ⌜ 540 ≤ length (now buf) ⌝ }
+    ensures { λ r. ⌜ Wrote (now (buf .entry)) 0 (lineBy number letter ask answer (now (out .entry))) (now (buf .exit)) r ⌝ }
 {
     let refusal = Refusal::Number(answer.refusal);
-    let at = answer.at;
-    let n = answer.count as usize;
-    if 8 < n {
-        return write_line(buf, number, letter, refusal, &at);
+    match ask {
+        Ask::Deed(_) => write_plain(buf, number, letter, refusal),
+        Ask::Gift(gift) => write_gift(buf, number, letter, gift, answer, out),
+        Ask::AskEvent => write_plain(buf, number, letter, refusal),
+        Ask::Arrival(_) => write_called(buf, number, letter, answer),
+        Ask::Unknown => write_plain(buf, number, letter, Refusal::NoCall),
     }
-    write_line(buf, number, letter, refusal, &at[..n])
 }

@@ -1,7 +1,12 @@
-// What a caller in C asks for, by a code, an applet and bytes; the codes and the bytes that each takes stand in specs/Asks.antt.
-// It calls nothing: what is asked for is known before the card is looked at.
+// What a caller asks for, by a code, an applet and bytes; the codes and the bytes that each takes stand in specs/Asks.antt.
+// It calls nothing: what is asked for is known before the card is looked at. Here too is what the calls take of the bytes.
+use rules::Pair;
+use rules::Request;
 ghost use mathlib.Core.Path.{_≡_};
-ghost use lib.ListN.{drop};
+ghost use Prim.Native.Nat.{_+_, _≤_};
+ghost use lib.ListN.{take, drop};
+ghost use Rattle.rules.specs.Bytes.{byte};
+ghost use Rattle.rules.specs.Floor.{signed, requestOf};
 ghost use Rattle.asks.specs.Asks.{askOf, fits, deedFits, giftFits, arrivalFits, marksHelp};
 
 // A call that only does something.
@@ -34,7 +39,7 @@ pub enum Arrival {
     Settled,
 }
 
-// What a caller asks for.
+// What a caller asks for; what is unknown is no call.
 pub enum Ask {
     Deed(Deed),
     Gift(Gift),
@@ -59,6 +64,74 @@ pub fn from(bytes: &[u8], at: usize) -> &[u8]
         return &bytes[len..];
     }
     &bytes[at..]
+}
+
+// The first bytes, so many or as many as there are.
+pub fn first(bytes: &[u8], n: usize) -> &[u8]
+    ensures { λ r. ⌜ now r ≡ take n (now (bytes .entry)) ⌝ }
+{
+    if bytes.len() < n {
+        return bytes;
+    }
+    &bytes[..n]
+}
+
+// The byte at an index, or 0 behind the end.
+pub fn byte_at(s: &[u8], at: usize) -> u8
+    ensures { λ r. ⌜ r ≡ byte (now (s .entry)) at ⌝ }
+{
+    if at < s.len() {
+        return s[at];
+    }
+    0
+}
+
+// The signed number that two bytes give.
+pub fn signed_of(high: u8, low: u8) -> i16
+    ensures { λ r. ⌜ r ≡ signed high low ⌝ }
+{
+    let n: u16 = (high as u16) * 256 + (low as u16);
+    if high < 128 {
+        n as i16
+    } else {
+        -1 - ((65535 - n) as i16)
+    }
+}
+
+// The event value that bytes start with, high byte first.
+pub fn value_of(bytes: &[u8]) -> i16
+    ensures { λ r. ⌜ r ≡ signed (byte (now (bytes .entry)) 0) (byte (now (bytes .entry)) 1) ⌝ }
+{
+    signed_of(byte_at(bytes, 0), byte_at(bytes, 1))
+}
+
+fn pair_at(s: &[u8], at: usize) -> Pair
+    requires { ⌜ at ≤ 10 ⌝ }
+    ensures { λ r. ⌜ r ≡ record { position = byte (now (s .entry)) at; identifier = byte (now (s .entry)) (at + 1) } ⌝ }
+{
+    Pair {
+        position: byte_at(s, at),
+        identifier: byte_at(s, at + 1),
+    }
+}
+
+// What the bytes of an install ask for.
+pub fn request(bytes: &[u8]) -> Request
+    ensures { λ r. ⌜ r ≡ requestOf (now (bytes .entry)) ⌝ }
+{
+    let pairs = [
+        pair_at(bytes, 4),
+        pair_at(bytes, 6),
+        pair_at(bytes, 8),
+        pair_at(bytes, 10),
+    ];
+    Request {
+        priority: byte_at(bytes, 0),
+        timers: byte_at(bytes, 1),
+        entries: byte_at(bytes, 2),
+        text: byte_at(bytes, 3),
+        pairs: pairs,
+    }
 }
 
 // What a code asks for.

@@ -26,3 +26,4 @@ pub mod Inserted
 pub mod Changes
 pub mod Writing
 pub mod Scan
+pub mod Parts

@@ -1,31 +1,32 @@
--- What an order means: the call that it makes with the record's arguments.
+-- What a record asks for, as an order of the rules.
 use Prim.Native.Nat.{ℕ}
+use mathlib.Core.Path.{_≡_}
 use mathlib.Core.List.{List}
-use lib.ListN.{take, drop, replicate}
+use lib.ListN.{length, take, drop, replicate}
+use Rattle.lists.specs.Tests.{if_then_else_}
 use Rattle.rules.specs.Bytes.{byte}
-use Rattle.rules.specs.Calls.{admin, event, entry, timer, arrival, settled, proactive, systemCommand}
-use Rattle.rules.specs.Calls.{install, delete, lock, unlock, setEvent, clearEvent, newEntry, allocate, envelope, profile, response}
 use Rattle.rules.specs.Floor as floor
-use Rattle.orders.specs.declared.Order.{Order}
-use Rattle.orders.specs.declared.Order.the-variants.{Install, NewEntry, SetEvent, ClearEvent, Profile, Envelope, Settled, SystemCommand, Response, Allocate, Delete, Lock, Unlock, NoCall}
+use Rattle.asks.specs.declared.Ask.{Ask}
+use Rattle.asks.specs.declared.Ask.the-variants.{Unknown}
+use Rattle.asks.specs.Asks.{Asked, calls, turned, fits, callOf}
 
 -- the arguments of a record
 unfoldable pub argumentsOf : List ℕ → List ℕ
 argumentsOf r = take (byte r 2) (drop 3 r)
 
--- the rules' order, by the order and the arguments l
-unfoldable pub ordered : Order → List ℕ → floor.Order
-ordered (Install a) l = floor.call (admin (install a (floor.requestOf l)))
-ordered (NewEntry a help) l = floor.call (entry (newEntry a help (drop 1 l)))
-ordered (SetEvent a v) l = floor.call (event (setEvent a v))
-ordered (ClearEvent a v) l = floor.call (event (clearEvent a v))
-ordered Profile l = floor.call (arrival (profile l))
-ordered Envelope l = floor.call (arrival (envelope l))
-ordered Settled l = floor.call settled
-ordered SystemCommand l = floor.call (systemCommand (replicate 256 0))
-ordered Response l = floor.call (proactive response)
-ordered (Allocate a) l = floor.call (timer (allocate a))
-ordered (Delete a) l = floor.call (admin (delete a))
-ordered (Lock a) l = floor.call (admin (lock a))
-ordered (Unlock a) l = floor.call (admin (unlock a))
-ordered NoCall l = floor.noCall
+-- what is asked for, only where the arguments l are such as the call takes
+unfoldable pub fitting : Ask → List ℕ → Ask
+fitting ask l = if fits ask l then ask else Unknown
+
+-- what the door would refuse by itself is no call
+unfoldable pub orderFor : Asked → floor.Order
+orderFor (calls c) = floor.call c
+orderFor (turned n) = floor.noCall
+
+-- the rules' order; a system command is handed out into 256 bytes
+unfoldable pub ordered : Ask → (applet : ℕ) (arguments : List ℕ) → floor.Order
+ordered ask a l = orderFor (callOf ask a l (replicate 256 0))
+
+-- what a letter asks for, of an applet and with any arguments
+abbrev pub AsksFor : (letter applet : ℕ) → Ask → Type 0
+AsksFor x a ask = (l : List ℕ) → ordered (fitting ask l) a l ≡ floor.orderBy x a (length l) l

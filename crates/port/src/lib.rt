@@ -4,15 +4,15 @@ use asks::Arrival;
 use asks::Ask;
 use asks::Deed;
 use asks::Gift;
+use asks::byte_at;
 use asks::from;
+use asks::request;
+use asks::value_of;
 use card::Arrived;
 use card::Asked;
 use card::Card;
 use card::Changed;
 use card::Numbered;
-use orders::byte_at;
-use orders::request;
-use orders::value_of;
 use paper::Answer;
 use paper::of_called;
 use paper::of_done;
@@ -130,7 +130,7 @@ fn name(card: Card, arrival: Arrival, bytes: &[u8]) -> Arrived
 }
 
 // Makes the call that is asked for.
-fn perform(card: Card, ask: Ask, applet: u8, bytes: &[u8], out: &mut [u8]) -> Posted
+pub fn perform(card: Card, ask: Ask, applet: u8, bytes: &[u8], out: &mut [u8]) -> Posted
     requires { ⌜ Left card ⌝ }
     ensures { λ r. ⌜ Posts (posted (view card) (callOf ask applet (now (bytes .entry)) (now (out .entry))) (now (out .entry))) (now (out .exit)) (r .card) (r .answer) ⌝ }
 {

@@ -244,7 +244,7 @@ fn say_numbered(letter: u8, s: &[u8]) {
         }
     } else if letter == b'v' {
         if 2 <= s.len() {
-            say_kind(events::kind_of(orders::signed_of(s[0], s[1])));
+            say_kind(events::kind_of(asks::signed_of(s[0], s[1])));
         }
     } else if 4 <= s.len() {
         let tag = number(s[0], s[1]);

@@ -1,199 +1,162 @@
--- Laws of a record obeyed: from what a call gives and the line that is written, what the rules say of the record.
+-- Laws of a record obeyed: from what it asks for, what the door posts and the line that is written, what the rules say of the record.
 -- Assumes nothing.
-use Prim.Native.Nat.{ℕ, zero, suc, _+_, _-_, _≤_}
+use Prim.Native.Nat.{ℕ, _+_, _-_, _≤_}
+use Prim.Native.Char.{code}
 use native.Mathlib.Omega.{arith}
 use mathlib.Core.Path.{_≡_, refl, sym, ap, _∙_}
-use mathlib.Core.Bool.{Bool, true, false}
-use mathlib.Core.List.{List, [], _∷_}
-use lib.IntN.{ℤ}
+use mathlib.Core.Bool.{Bool, true, false, _&&_}
+use mathlib.Core.List.{List, []}
 use lib.ListN.{length, take, drop, replicate, length-append, length-take}
-use borrow.Author.Tests.{eqb-true}
-use Rattle.lists.specs.Tests.{if_then_else_, _==_}
-use Rattle.lists.specs.Lists.{padded}
+use Rattle.lists.specs.Tests.{if_then_else_, _==_, _≤?_}
 use Rattle.lists.specs.Wrote.{putAt, Wrote}
+use Rattle.lists.proofs.Decided.{clashing}
+use Rattle.lists.proofs.Ifs.{if-holds}
 use Rattle.lists.proofs.Padded.{take-padded}
 use Rattle.lists.proofs.Writing.{wrote-as}
-use Rattle.rules.specs.declared.Done.the-variants as done
-use Rattle.rules.specs.declared.Given.the-variants as given
-use Rattle.rules.specs.Holds.{Model}
-use Rattle.rules.specs.Calls.{Answer, Outcome, Call, admin, event, entry, timer, arrival, settled, proactive, systemCommand}
-use Rattle.rules.specs.Calls.{install, delete, lock, unlock, setEvent, clearEvent, newEntry, allocate, envelope, profile, response}
-use Rattle.rules.specs.Refusals.{refusal}
-use Rattle.rules.specs.Step.{answer, arrivalAnswer, outcome, step}
-use Rattle.rules.specs.Floor as floor
-use Rattle.rules.specs.Floor.{decimal, dash, lineOf, requestOf, shownAnswer, obeyed, orderOf, stepLine}
 use Rattle.rules.specs.Bytes.{byte}
-use Rattle.rules.specs.Papers.{paperDone, paperGiven}
-use Rattle.orders.specs.declared.Order.{Order}
-use Rattle.orders.specs.declared.Order.the-variants.{Install, NewEntry, SetEvent, ClearEvent, Profile, Envelope, Settled, SystemCommand, Response, Allocate, Delete, Lock, Unlock, NoCall}
-use Rattle.orders.specs.Orders.{argumentsOf, ordered}
-use Rattle.answers.specs.Shown.{shownGiven, shownCommand}
+use Rattle.rules.specs.Holds.{Model}
+use Rattle.rules.specs.Calls.{Outcome, Call, admin, event, entry, timer, arrival, settled, proactive, systemCommand}
+use Rattle.rules.specs.Calls.{askEvent, newEntry, changeEntry, enableEntry, disableEntry, allocate, release}
+use Rattle.rules.specs.Step.{step}
+use Rattle.rules.specs.Floor as floor
+use Rattle.rules.specs.Floor.{only-if, signed, decimal, lineOf, shownAnswer, obeyed, orderBy, orderOf, stepLine}
+use Rattle.asks.specs.declared.Deed.{Deed as DeedAsk}
+use Rattle.asks.specs.declared.Deed.the-variants as deed
+use Rattle.asks.specs.declared.Gift.the-variants as gift
+use Rattle.asks.specs.declared.Arrival.{Arrival as ArrivalAsk}
+use Rattle.asks.specs.declared.Arrival.the-variants as arriving
+use Rattle.asks.specs.declared.Ask.{Ask}
+use Rattle.asks.specs.declared.Ask.the-variants.{Deed, Gift, AskEvent, Arrival, Unknown}
+use Rattle.asks.specs.Asks.{Asked, calls, turned, deedCall, giftCall, arrivalCall, callOf}
+use Rattle.paper.specs.declared.Answer.{Answer}
+use Rattle.paper.specs.Answers.{storedAnswer}
+use Rattle.port.specs.Posts.{lentAfter, posted, Posts}
+use Rattle.orders.specs.Orders.{argumentsOf, orderFor, ordered}
+use Rattle.answers.specs.Shown.{shownGift, lineBy}
 use Rattle.card.specs.declared.Card.{Card}
-use Rattle.card.specs.declared.Changed.{Changed}
-use Rattle.card.specs.declared.Numbered.{Numbered}
-use Rattle.card.specs.declared.Arrived.{Arrived}
 use Rattle.card.specs.View.{view, stored, Left}
-use Rattle.card.specs.Reply.{doneOf, givenOf, calledOf, changedBy, numberedBy, arrivedBy}
 use Rattle.card.proofs.Left.{left-form, left-again}
 use Rattle.records.specs.declared.Obeyed.{Obeyed}
-use Rattle.records.specs.Obeys.{Lined, Obeys}
+use Rattle.records.specs.Obeys.{Obeys}
 
--- what an answer's enum shows is what the answer says
-done-refusal : (a : Answer) → paperDone (doneOf a) .refusal ≡ a .refusal
-unfolding paperDone doneOf
-done-refusal a = go (a .refusal == 0) refl
-  where
-    go : (b : Bool) → (a .refusal == 0) ≡ b → paperDone (if b then done.Accepted else done.Refused (a .refusal)) .refusal ≡ a .refusal
-    go true e = sym (eqb-true (a .refusal) 0 e)
-    go false e = refl
+-- no letter asks for a change of an entry or for the release of a timer, whose lines would show a number
+unfoldable hasLetter : Call → Bool
+hasLetter (admin c) = true
+hasLetter (event c) = true
+hasLetter (entry (newEntry n help text)) = true
+hasLetter (entry (changeEntry n i help text)) = false
+hasLetter (entry (enableEntry n i)) = false
+hasLetter (entry (disableEntry n i)) = false
+hasLetter (timer (allocate n)) = true
+hasLetter (timer (release n i)) = false
+hasLetter (arrival c) = true
+hasLetter settled = true
+hasLetter (proactive c) = true
+hasLetter (systemCommand buffer) = true
 
-given-refusal : (a : Answer) → paperGiven (givenOf a) .refusal ≡ a .refusal
-unfolding paperGiven givenOf
-given-refusal a = go (a .refusal == 0) refl
-  where
-    go : (b : Bool) → (a .refusal == 0) ≡ b → paperGiven (if b then given.Number (a .number) else given.Refused (a .refusal)) .refusal ≡ a .refusal
-    go true e = sym (eqb-true (a .refusal) 0 e)
-    go false e = refl
+unfoldable orderly : floor.Order → Bool
+orderly (floor.call c) = hasLetter c
+orderly floor.noCall = true
 
-given-shown : (a : Answer) → shownGiven (givenOf a) ≡ (if a .refusal == 0 then a .number ∷ [] else [])
-unfolding shownGiven givenOf
-given-shown a = go (a .refusal == 0)
-  where
-    go : (b : Bool) → shownGiven (if b then given.Number (a .number) else given.Refused (a .refusal)) ≡ (if b then a .number ∷ [] else [])
-    go true = refl
-    go false = refl
+no-call : orderly floor.noCall ≡ true
+unfolding orderly
+no-call = refl
 
-command-shown : (a : Answer) (out : List ℕ) → shownCommand (givenOf a) out ≡ (if a .refusal == 0 then take (a .number) out else [])
-unfolding shownCommand givenOf
-command-shown a out = go (a .refusal == 0)
-  where
-    go : (b : Bool) → shownCommand (if b then given.Number (a .number) else given.Refused (a .refusal)) out ≡ (if b then take (a .number) out else [])
-    go true = refl
-    go false = refl
+one-letter : (b d : Bool) (c : Call) (o : floor.Order) → hasLetter c ≡ true → orderly o ≡ true → orderly (if b then only-if d c else o) ≡ true
+unfolding orderly
+one-letter true true c o p q = p
+one-letter true false c o p q = refl
+one-letter false d c o p q = q
 
-if-none : (b : Bool) → _≡_ {A = List ℕ} [] (if b then [] else [])
-if-none true = refl
-if-none false = refl
+letter-by : (x a n : ℕ) (l : List ℕ) → orderly (orderBy x a n l) ≡ true
+unfolding orderBy hasLetter
+letter-by x a n l =
+    one-letter (x == code "I") (n == 12) _ _ refl
+    (one-letter (x == code "M") (1 ≤? n && byte l 0 ≤? 1) _ _ refl
+    (one-letter (x == code "E") (n == 2) _ _ refl
+    (one-letter (x == code "C") (n == 2) _ _ refl
+    (one-letter (x == code "P") (a == 0) _ _ refl
+    (one-letter (x == code "S") (a == 0) _ _ refl
+    (one-letter (x == code "O") (n == 0 && a == 0) _ _ refl
+    (one-letter (x == code "W") (n == 0 && a == 0) _ _ refl
+    (one-letter (x == code "R") (n == 0 && a == 0) _ _ refl
+    (one-letter (x == code "T") (n == 0) _ _ refl
+    (one-letter (x == code "D") (n == 0) _ _ refl
+    (one-letter (x == code "L") (n == 0) _ _ refl
+    (one-letter (x == code "U") (n == 0) _ _ refl no-call))))))))))))
 
--- a refused arrival calls nobody
-called-shown : (m : Model) (c : Call) → answer m c .refusal ≡ 0 → step m c .answer .called ≡ (if step m c .answer .refusal == 0 then step m c .answer .called else [])
-unfolding step outcome
-called-shown m c z = go (refusal m c)
-  where
-    go : (n : ℕ) → outcome n m c .answer .called ≡ (if outcome n m c .answer .refusal == 0 then outcome n m c .answer .called else [])
-    go zero = rw z refl
-    go (suc n) = if-none (suc n == 0)
+orderly-all : (s : List ℕ) → orderly (orderOf s) ≡ true
+unfolding orderOf
+orderly-all s = if-holds (λ (o : floor.Order). orderly o ≡ true) (floor.filled s) (λ _. letter-by _ _ _ _) (λ _. no-call)
 
-module _ (k letter : ℕ) (m : Model) (l : List ℕ) {b d : List ℕ} {r : Obeyed} where
-  -- a record's order, from the card and the line that the call's outcome says
-  order-is
-      : (q : Order) (c : Call) → ordered q l ≡ floor.call c → (o : Order) → o ≡ q → (left : Card) (refused shown : List ℕ)
-      → left ≡ stored (step m c .after) → refused ≡ decimal (step m c .answer .refusal)
-      → shown ≡ (if step m c .answer .refusal == 0 then shownAnswer c (step m c) else [])
-      → Lined left (lineOf k letter refused shown) b d r → Obeys (floor.obey k letter m (ordered o l)) b d r
-  unfolding floor.obey obeyed
-  order-is q c is o e left refused shown f g h w =
-      rw (e, is) (record { same = w .same ∙ f; wrote = wrote-as (ap (λ (x : List ℕ). lineOf k letter x shown) g ∙ ap (lineOf k letter (decimal (step m c .answer .refusal))) h) (w .wrote) })
+-- what a call that only does something, and an arrival, show
+deed-shown : (x : DeedAsk) (a : ℕ) (l : List ℕ) (o : Outcome) → hasLetter (deedCall x a l) ≡ true → shownAnswer (deedCall x a l) o ≡ []
+unfolding deedCall hasLetter shownAnswer
+deed-shown deed.Install a l o e = refl
+deed-shown deed.Delete a l o e = refl
+deed-shown deed.Lock a l o e = refl
+deed-shown deed.Unlock a l o e = refl
+deed-shown deed.SetEvent a l o e = refl
+deed-shown deed.ClearEvent a l o e = refl
+deed-shown deed.ChangeEntry a l o e = clashing e refl
+deed-shown deed.EnableEntry a l o e = clashing e refl
+deed-shown deed.DisableEntry a l o e = clashing e refl
+deed-shown deed.Release a l o e = clashing e refl
+deed-shown deed.Send a l o e = refl
+deed-shown deed.Response a l o e = refl
 
-  by-change
-      : (q : Order) (c : Call) → ordered q l ≡ floor.call c → ((o : Outcome) → shownAnswer c o ≡ []) → (o : Order) → o ≡ q → (x : Changed) → x ≡ changedBy (step m c)
-      → Lined (x .card) (lineOf k letter (decimal (paperDone (x .answer) .refusal)) []) b d r → Obeys (floor.obey k letter m (ordered o l)) b d r
-  unfolding changedBy
-  by-change q c is n o e x f w =
-      order-is q c is o e (x .card) _ [] (ap (λ (y : Changed). y .card) f)
-      (ap (λ (y : Changed). decimal (paperDone (y .answer) .refusal)) f ∙ ap decimal (done-refusal (step m c .answer)))
-      (rw (n (step m c)) (if-none (step m c .answer .refusal == 0))) w
+arrival-shown : (x : ArrivalAsk) (l : List ℕ) (o : Outcome) → o .answer .called ≡ shownAnswer (arrivalCall x l) o
+unfolding arrivalCall shownAnswer
+arrival-shown arriving.Profile l o = refl
+arrival-shown arriving.Envelope l o = refl
+arrival-shown arriving.Settled l o = refl
 
-  by-number
-      : (q : Order) (c : Call) → ordered q l ≡ floor.call c → ((o : Outcome) → shownAnswer c o ≡ o .answer .number ∷ []) → (o : Order) → o ≡ q → (x : Numbered) → x ≡ numberedBy (step m c)
-      → Lined (x .card) (lineOf k letter (decimal (paperGiven (x .answer) .refusal)) (shownGiven (x .answer))) b d r → Obeys (floor.obey k letter m (ordered o l)) b d r
-  unfolding numberedBy
-  by-number q c is n o e x f w =
-      order-is q c is o e (x .card) _ _ (ap (λ (y : Numbered). y .card) f)
-      (ap (λ (y : Numbered). decimal (paperGiven (y .answer) .refusal)) f ∙ ap decimal (given-refusal (step m c .answer)))
-      (ap (λ (y : Numbered). shownGiven (y .answer)) f ∙ rw (n (step m c)) (given-shown (step m c .answer))) w
+if-none : (b : Bool) (s : List ℕ) → s ≡ [] → [] ≡ (if b then s else [])
+if-none true s e = sym e
+if-none false s e = refl
 
-  by-arrival
-      : (q : Order) (c : Call) → ordered q l ≡ floor.call c → ((o : Outcome) → shownAnswer c o ≡ o .answer .called) → answer m c .refusal ≡ 0 → (o : Order) → o ≡ q → (x : Arrived) → x ≡ arrivedBy (step m c)
-      → Lined (x .card) (lineOf k letter (decimal (x .answer .refusal)) (take (x .answer .count) (x .answer .at))) b d r → Obeys (floor.obey k letter m (ordered o l)) b d r
-  unfolding arrivedBy calledOf
-  by-arrival q c is n z o e x f w =
-      order-is q c is o e (x .card) _ _ (ap (λ (y : Arrived). y .card) f)
-      (ap (λ (y : Arrived). decimal (y .answer .refusal)) f)
-      (ap (λ (y : Arrived). take (y .answer .count) (y .answer .at)) f ∙ take-padded 8 0 (step m c .answer .called) ∙ rw (n (step m c)) (called-shown m c z)) w
+module _ (k letter a : ℕ) (m : Model) (l : List ℕ) where
+  abbrev post : Ask → Outcome
+  post ask = posted m (callOf ask a l (replicate 256 0)) (replicate 256 0)
 
-  pub at-system-command
-      : (o : Order) → o ≡ SystemCommand → (x : Numbered) (out : List ℕ) → x ≡ numberedBy (step m (systemCommand (replicate 256 0))) → out ≡ step m (systemCommand (replicate 256 0)) .buffer
-      → Lined (x .card) (lineOf k letter (decimal (paperGiven (x .answer) .refusal)) (shownCommand (x .answer) out)) b d r → Obeys (floor.obey k letter m (ordered o l)) b d r
-  unfolding numberedBy ordered shownAnswer
-  at-system-command o e x out f g w =
-      let c = systemCommand (replicate 256 0) in
-      order-is SystemCommand c refl o e (x .card) _ _ (ap (λ (y : Numbered). y .card) f)
-      (ap (λ (y : Numbered). decimal (paperGiven (y .answer) .refusal)) f ∙ ap decimal (given-refusal (step m c .answer)))
-      (ap (λ (y : Numbered). shownCommand (y .answer) out) f ∙ rw g (command-shown (step m c .answer) (step m c .buffer))) w
+  -- the line of what is posted is the rules' line of the order
+  line-is : (ask : Ask) → orderly (ordered ask a l) ≡ true → lineBy k letter ask (storedAnswer (post ask .answer)) (post ask .buffer) ≡ floor.obey k letter m (ordered ask a l) .line
+  unfolding lineBy posted callOf ordered orderFor orderly floor.obey obeyed storedAnswer
+  line-is (Deed x) h = let o = step m (deedCall x a l) in ap (lineOf k letter (decimal (o .answer .refusal))) (if-none (o .answer .refusal == 0) _ (deed-shown x a l o h))
+  line-is (Gift gift.NewEntry) h = unfold giftCall shownGift shownAnswer in refl
+  line-is (Gift gift.Allocate) h = unfold giftCall shownGift shownAnswer in refl
+  line-is (Gift gift.SystemCommand) h = unfold giftCall shownGift shownAnswer lentAfter in refl
+  line-is AskEvent h =
+      let o = step m (event (askEvent a (signed (byte l 0) (byte l 1)))) in
+      unfold shownAnswer in ap (lineOf k letter (decimal (o .answer .refusal))) (if-none (o .answer .refusal == 0) [] refl)
+  line-is (Arrival x) h =
+      let o = step m (arrivalCall x l) in
+      ap (λ (s : List ℕ). lineOf k letter (decimal (o .answer .refusal)) (if o .answer .refusal == 0 then s else [])) (take-padded 8 0 (o .answer .called) ∙ arrival-shown x l o)
+  line-is Unknown h = refl
 
-  pub at-no-call : (o : Order) → o ≡ NoCall → (left : Card) → left ≡ stored m → r .card ≡ left → Wrote b 0 (lineOf k letter dash []) d (r .length) → Obeys (floor.obey k letter m (ordered o l)) b d r
-  unfolding floor.obey ordered
-  at-no-call o e left f s w = rw e (record { same = s ∙ f; wrote = w })
+  card-is : (ask : Ask) → post ask .after ≡ floor.obey k letter m (ordered ask a l) .card
+  unfolding posted ordered orderFor floor.obey obeyed
+  card-is ask = go (callOf ask a l (replicate 256 0))
+    where
+      go : (x : Asked) → posted m x (replicate 256 0) .after ≡ floor.obey k letter m (orderFor x) .card
+      go (calls c) = refl
+      go (turned n) = refl
 
-  pub at-install : (a : ℕ) (o : Order) → o ≡ Install a → (x : Changed) → x ≡ changedBy (step m (admin (install a (requestOf l)))) → Lined (x .card) (lineOf k letter (decimal (paperDone (x .answer) .refusal)) []) b d r → Obeys (floor.obey k letter m (ordered o l)) b d r
-  unfolding ordered shownAnswer
-  at-install a o e x f w = by-change (Install a) (admin (install a (requestOf l))) refl (λ o. refl) o e x f w
-
-  pub at-delete : (a : ℕ) (o : Order) → o ≡ Delete a → (x : Changed) → x ≡ changedBy (step m (admin (delete a))) → Lined (x .card) (lineOf k letter (decimal (paperDone (x .answer) .refusal)) []) b d r → Obeys (floor.obey k letter m (ordered o l)) b d r
-  unfolding ordered shownAnswer
-  at-delete a o e x f w = by-change (Delete a) (admin (delete a)) refl (λ o. refl) o e x f w
-
-  pub at-lock : (a : ℕ) (o : Order) → o ≡ Lock a → (x : Changed) → x ≡ changedBy (step m (admin (lock a))) → Lined (x .card) (lineOf k letter (decimal (paperDone (x .answer) .refusal)) []) b d r → Obeys (floor.obey k letter m (ordered o l)) b d r
-  unfolding ordered shownAnswer
-  at-lock a o e x f w = by-change (Lock a) (admin (lock a)) refl (λ o. refl) o e x f w
-
-  pub at-unlock : (a : ℕ) (o : Order) → o ≡ Unlock a → (x : Changed) → x ≡ changedBy (step m (admin (unlock a))) → Lined (x .card) (lineOf k letter (decimal (paperDone (x .answer) .refusal)) []) b d r → Obeys (floor.obey k letter m (ordered o l)) b d r
-  unfolding ordered shownAnswer
-  at-unlock a o e x f w = by-change (Unlock a) (admin (unlock a)) refl (λ o. refl) o e x f w
-
-  pub at-set-event : (a : ℕ) (v u : ℤ) (o : Order) → o ≡ SetEvent a v → u ≡ v → (x : Changed) → x ≡ changedBy (step m (event (setEvent a u))) → Lined (x .card) (lineOf k letter (decimal (paperDone (x .answer) .refusal)) []) b d r → Obeys (floor.obey k letter m (ordered o l)) b d r
-  unfolding ordered shownAnswer
-  at-set-event a v u o e s x f w = by-change (SetEvent a v) (event (setEvent a v)) refl (λ o. refl) o e x (rw s at f) w
-
-  pub at-clear-event : (a : ℕ) (v u : ℤ) (o : Order) → o ≡ ClearEvent a v → u ≡ v → (x : Changed) → x ≡ changedBy (step m (event (clearEvent a u))) → Lined (x .card) (lineOf k letter (decimal (paperDone (x .answer) .refusal)) []) b d r → Obeys (floor.obey k letter m (ordered o l)) b d r
-  unfolding ordered shownAnswer
-  at-clear-event a v u o e s x f w = by-change (ClearEvent a v) (event (clearEvent a v)) refl (λ o. refl) o e x (rw s at f) w
-
-  pub at-response : (o : Order) → o ≡ Response → (x : Changed) → x ≡ changedBy (step m (proactive response)) → Lined (x .card) (lineOf k letter (decimal (paperDone (x .answer) .refusal)) []) b d r → Obeys (floor.obey k letter m (ordered o l)) b d r
-  unfolding ordered shownAnswer
-  at-response o e x f w = by-change Response (proactive response) refl (λ o. refl) o e x f w
-
-  pub at-new-entry : (a : ℕ) (h : Bool) (o : Order) → o ≡ NewEntry a h → (x : Numbered) → x ≡ numberedBy (step m (entry (newEntry a h (drop 1 l)))) → Lined (x .card) (lineOf k letter (decimal (paperGiven (x .answer) .refusal)) (shownGiven (x .answer))) b d r → Obeys (floor.obey k letter m (ordered o l)) b d r
-  unfolding ordered shownAnswer
-  at-new-entry a h o e x f w = by-number (NewEntry a h) (entry (newEntry a h (drop 1 l))) refl (λ o. refl) o e x f w
-
-  pub at-allocate : (a : ℕ) (o : Order) → o ≡ Allocate a → (x : Numbered) → x ≡ numberedBy (step m (timer (allocate a))) → Lined (x .card) (lineOf k letter (decimal (paperGiven (x .answer) .refusal)) (shownGiven (x .answer))) b d r → Obeys (floor.obey k letter m (ordered o l)) b d r
-  unfolding ordered shownAnswer
-  at-allocate a o e x f w = by-number (Allocate a) (timer (allocate a)) refl (λ o. refl) o e x f w
-
-  pub at-profile : (o : Order) → o ≡ Profile → (x : Arrived) → x ≡ arrivedBy (step m (arrival (profile l))) → Lined (x .card) (lineOf k letter (decimal (x .answer .refusal)) (take (x .answer .count) (x .answer .at))) b d r → Obeys (floor.obey k letter m (ordered o l)) b d r
-  unfolding ordered shownAnswer answer arrivalAnswer
-  at-profile o e x f w = by-arrival Profile (arrival (profile l)) refl (λ o. refl) refl o e x f w
-
-  pub at-envelope : (o : Order) → o ≡ Envelope → (x : Arrived) → x ≡ arrivedBy (step m (arrival (envelope l))) → Lined (x .card) (lineOf k letter (decimal (x .answer .refusal)) (take (x .answer .count) (x .answer .at))) b d r → Obeys (floor.obey k letter m (ordered o l)) b d r
-  unfolding ordered shownAnswer answer arrivalAnswer
-  at-envelope o e x f w = by-arrival Envelope (arrival (envelope l)) refl (λ o. refl) refl o e x f w
-
-  pub at-settled : (o : Order) → o ≡ Settled → (x : Arrived) → x ≡ arrivedBy (step m settled) → Lined (x .card) (lineOf k letter (decimal (x .answer .refusal)) (take (x .answer .count) (x .answer .at))) b d r → Obeys (floor.obey k letter m (ordered o l)) b d r
-  unfolding ordered shownAnswer answer arrivalAnswer
-  at-settled o e x f w = by-arrival Settled settled refl (λ o. refl) refl o e x f w
-
-  pub at-hand-out : (o : Order) → o ≡ SystemCommand → Obeys (floor.obey k letter m (ordered SystemCommand [])) b d r → Obeys (floor.obey k letter m (ordered o l)) b d r
-  unfolding ordered
-  at-hand-out o e w = rw e w
-
--- the record itself
+-- THE RECORD ITSELF
 pub at-record
-    : (k letter : ℕ) (m : Model) (s l : List ℕ) (o : Order) {b d : List ℕ} {r : Obeyed}
-    → letter ≡ byte s 0 → ordered o (argumentsOf s) ≡ orderOf s → l ≡ argumentsOf s → Obeys (floor.obey k letter m (ordered o l)) b d r → Obeys (stepLine k m s) b d r
+    : (k letter a : ℕ) (m : Model) (s l : List ℕ) (ask : Ask) {card : Card} {answer : Answer} {out b d : List ℕ} {r : Obeyed}
+    → letter ≡ byte s 0 → a ≡ byte s 1 → l ≡ argumentsOf s → ordered ask (byte s 1) (argumentsOf s) ≡ orderOf s
+    → Posts (posted m (callOf ask a l (replicate 256 0)) (replicate 256 0)) out card answer
+    → r .card ≡ card → Wrote b 0 (lineBy k letter ask answer out) d (r .length) → Obeys (stepLine k m s) b d r
 unfolding stepLine
-at-record k letter m s l o e f g w = rw (g, f, e) at w
+at-record k letter a m s l ask {out = out} e ea el q p same w =
+    let made : ordered ask a l ≡ orderOf s = rw (ea, el) q in
+    let all : floor.obey k letter m (ordered ask a l) ≡ floor.obey k (byte s 0) m (orderOf s) = rw (made, e) refl in
+    record {
+      same = same ∙ p .card-is ∙ ap stored (card-is k letter a m l ask) ∙ ap (λ (o : floor.Obeyed). stored (o .card)) all;
+      wrote =
+          wrote-as (ap (λ (x : Answer). lineBy k letter ask x out) (p .answer-is) ∙ ap (lineBy k letter ask (storedAnswer (post k letter a m l ask .answer))) (p .buffer-is) ∙ line-is k letter a m l ask (rw made (orderly-all s)) ∙ ap (λ (o : floor.Obeyed). o .line) all) w;
+    }
 
 -- a record leaves a card that calls have left, and its line ends within the buffer
 pub left-record : (k : ℕ) (c : Card) (s : List ℕ) (d : Card) → Left c → d ≡ stored (stepLine k (view c) s .card) → Left d

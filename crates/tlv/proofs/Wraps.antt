@@ -1,14 +1,13 @@
 -- The outer value: it starts within the bytes and is a run of elements; and the part of a slice from a position to its end.
 -- Assumes nothing.
 use Prim.Native.Nat.{ℕ, _-_, _≤_}
-use native.Mathlib.Omega.{arith}
 use mathlib.Core.Path.{_≡_, refl, sym, ap, _∙_, subst}
 use mathlib.Core.Bool.{true}
 use mathlib.Core.List.{List}
-use lib.ListN.{length, take, drop, length-drop}
-use lib.Seq.{take-all}
+use lib.ListN.{length, take, drop}
 use Rattle.lists.specs.Tests.{_==_}
 use Rattle.lists.proofs.Ifs.{if-holds}
+use Rattle.lists.proofs.Parts.{part-rest}
 use Rattle.rules.specs.declared.Len.{Len}
 use Rattle.rules.specs.declared.Len.the-variants.{Known, Bad}
 use Rattle.rules.specs.declared.Outer.{Outer}
@@ -17,11 +16,8 @@ use Rattle.rules.specs.Bytes.{lengthAt, runAt, fills, rest, outerBy, outerOf}
 use Rattle.elements.proofs.Ends.{length-within}
 
 -- the part of a slice from a position on, as the slice's rule gives it, is the rest of the bytes
-pub rest-is : (s : List ℕ) (at : ℕ) → take (length s - at) (drop at s) ≡ rest s at
-rest-is s at = take-all (length s - at) (drop at s) (omega (arith, length-drop at s))
-
 pub by-rest : {X : Type 0} (F : List ℕ → X) (s : List ℕ) (at : ℕ) {x : X} → x ≡ F (take (length s - at) (drop at s)) → x ≡ F (rest s at)
-by-rest F s at e = e ∙ ap F (rest-is s at)
+by-rest F s at e = e ∙ ap F (part-rest s at)
 
 pub by-rest₁ : {P X : Type 0} (F : P → List ℕ → X) (s : List ℕ) (at : ℕ) {p : P} {x : X} → x ≡ F p (take (length s - at) (drop at s)) → x ≡ F p (rest s at)
 by-rest₁ F s at {p} e = by-rest (F p) s at e

@@ -1,7 +1,6 @@
 -- `answers::write_plain` meets its contract.
 -- Assumes nothing.
 use borrow.Author.Needs.{needs}
-use Rattle.lines.specs.Texts.{refusalText}
 use Rattle.answers.proofs.write_plain.Statement.{statement}
 use Rattle.answers.proofs.write_plain.Tie as tie
 
@@ -18,7 +17,6 @@ same-length : tie.Need-same-length
 same-length c = search needs
 
 returns : tie.Need-returns
-unfolding refusalText
 returns c = c .before .before .write-line .ensures
 
 pub write-plain-spec : {M : Type 1} → statement M

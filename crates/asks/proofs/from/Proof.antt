@@ -1,8 +1,7 @@
 -- `asks::from` meets its contract.
 -- Assumes nothing.
 use denote.Ref.{now}
-use Rattle.orders.proofs.OrderLaws.{part-rest}
-use Rattle.asks.proofs.AskLaws.{none-past}
+use Rattle.lists.proofs.Parts.{part-rest, part-none}
 use borrow.Author.Needs.{needs}
 use Rattle.asks.proofs.from.Statement.{statement}
 use Rattle.asks.proofs.from.Tie as tie
@@ -19,7 +18,7 @@ part-result-end c = search needs
 returns : tie.Need-returns
 returns c =
     let s = now (c .before .before .args .bytes) in
-    none-past s (c .before .if1 .taken)
+    part-none s (c .before .before .args .at) (c .before .if1 .taken)
 
 sub-result-2 : tie.Need-sub-result-2
 sub-result-2 c = search needs
@@ -31,7 +30,7 @@ part-result-end-2 : tie.Need-part-result-end-2
 part-result-end-2 c = search needs
 
 returns-2 : tie.Need-returns-2
-returns-2 c = part-rest (c .before .before .args .at) (now (c .before .before .args .bytes))
+returns-2 c = part-rest (now (c .before .before .args .bytes)) (c .before .before .args .at)
 
 pub from-spec : {M : Type 1} → statement M
 from-spec =

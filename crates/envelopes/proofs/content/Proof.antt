@@ -2,8 +2,9 @@
 -- Assumes nothing.
 use borrow.Author.Needs.{needs}
 use Rattle.lists.proofs.Picks.{picks, by-call, by-case₁}
+use Rattle.lists.proofs.Parts.{part-rest}
 use Rattle.rules.specs.Envelopes.{envelopeBy, envelopeIn, envelopeOf, badEnvelope, contentIn, contentOf}
-use Rattle.tlv.proofs.Wraps.{rest-is, by-rest₁, outer-within}
+use Rattle.tlv.proofs.Wraps.{by-rest₁, outer-within}
 use Rattle.envelopes.proofs.Contents.{content-none}
 use Rattle.envelopes.proofs.content.Statement.{statement}
 use Rattle.envelopes.proofs.content.Tie as tie
@@ -34,7 +35,7 @@ slice-aggregate-result c = search needs
 
 returns : tie.Need-returns
 unfolding contentOf contentIn envelopeOf envelopeIn
-returns c = search (picks, by-call badEnvelope, by-case₁ envelopeIn, by-case₁ contentIn, by-rest₁ envelopeBy, rest-is, needs) depth 10
+returns c = search (picks, by-call badEnvelope, by-case₁ envelopeIn, by-case₁ contentIn, by-rest₁ envelopeBy, part-rest, needs) depth 10
 
 sub-result : tie.Need-sub-result
 sub-result c = search (outer-within, needs)
@@ -53,7 +54,7 @@ slice-aggregate-result-2 c = search needs
 
 returns-2 : tie.Need-returns-2
 unfolding contentOf contentIn envelopeOf envelopeIn
-returns-2 c = search (picks, by-call badEnvelope, by-case₁ envelopeIn, by-case₁ contentIn, by-rest₁ envelopeBy, rest-is, needs) depth 10
+returns-2 c = search (picks, by-call badEnvelope, by-case₁ envelopeIn, by-case₁ contentIn, by-rest₁ envelopeBy, part-rest, needs) depth 10
 
 returns-3 : tie.Need-returns-3
 returns-3 c = search (content-none, needs)

@@ -14,23 +14,27 @@ byte-at-requires c κs = search needs
 byte-at-requires-2 : tie.Need-byte-at-requires-2
 byte-at-requires-2 c κs = search needs
 
-byte-at-requires-3 : tie.Need-byte-at-requires-3
-byte-at-requires-3 c κs = search needs
+asked-by-requires : tie.Need-asked-by-requires
+asked-by-requires c κs = search needs
 
 arguments-requires : tie.Need-arguments-requires
 arguments-requires c κs = search needs
 
-order-by-requires : tie.Need-order-by-requires
-order-by-requires c κs = search needs
+fits-requires : tie.Need-fits-requires
+fits-requires c κs = search needs
+
+only-if-requires : tie.Need-only-if-requires
+only-if-requires c κs = search needs
 
 returns : tie.Need-returns
 returns c =
-    let a = c .before in
-    let n = a .before in
-    let p = n .before in
-    let x = p .before in
+    let f = c .before in
+    let l = f .before in
+    let o = l .before in
+    let a = o .before in
+    let x = a .before in
     let t = x .before in
-    read-filled _ _ (t .before .is-filled .ensures) (t .if1 .taken) _ _ _ _ _ (x .byte-at .ensures) (p .byte-at2 .ensures) (n .byte-at3 .ensures) (a .arguments .ensures) (c .order-by .ensures)
+    read-filled _ _ _ _ _ _ _ _ (t .before .is-filled .ensures) (t .if1 .taken) (x .byte-at .ensures) (a .byte-at2 .ensures) (l .arguments .ensures) (o .asked-by .ensures) (f .fits2 .ensures) (c .only-if .ensures)
 
 returns-2 : tie.Need-returns-2
 returns-2 c = read-not _ _ (c .before .is-filled .ensures) (c .if1 .left)
@@ -42,8 +46,9 @@ read-spec =
     is-filled-requires
     byte-at-requires
     byte-at-requires-2
-    byte-at-requires-3
+    asked-by-requires
     arguments-requires
-    order-by-requires
+    fits-requires
+    only-if-requires
     returns
     returns-2)

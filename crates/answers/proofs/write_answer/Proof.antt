@@ -1,0 +1,119 @@
+-- `answers::write_answer` meets its contract.
+-- Assumes nothing.
+use Rattle.lists.proofs.Writing.{wrote-of}
+use Rattle.asks.specs.declared.Ask.{Ask}
+use Rattle.lines.specs.Texts.{refusalText}
+use Rattle.answers.specs.Shown.{lineBy}
+use borrow.Author.Needs.{needs}
+use Rattle.answers.proofs.write_answer.Statement.{statement}
+use Rattle.answers.proofs.write_answer.Tie as tie
+
+enum-told : tie.Need-enum-told
+enum-told c = search needs
+
+write-plain-requires : tie.Need-write-plain-requires
+write-plain-requires c κs = search needs
+
+enum-known-ask : tie.Need-enum-known-ask
+enum-known-ask c = search needs
+
+write-gift-requires : tie.Need-write-gift-requires
+write-gift-requires c κs = search needs
+
+enum-told-2 : tie.Need-enum-told-2
+enum-told-2 c = search needs
+
+write-plain-requires-2 : tie.Need-write-plain-requires-2
+write-plain-requires-2 c κs = search needs
+
+enum-told-3 : tie.Need-enum-told-3
+enum-told-3 c = search needs
+
+write-called-requires : tie.Need-write-called-requires
+write-called-requires c κs = search needs
+
+enum-told-4 : tie.Need-enum-told-4
+enum-told-4 c = search needs
+
+write-plain-requires-3 : tie.Need-write-plain-requires-3
+write-plain-requires-3 c κs = search needs
+
+same-length : tie.Need-same-length
+same-length c = search needs
+
+returns : tie.Need-returns
+unfolding lineBy refusalText
+returns c =
+    let p = c .before .before in
+    let e = p .before .before in
+    let s = e .before .before .before .before in
+    wrote-of (λ (a : Ask). lineBy (s .args .number) (s .args .letter) a (s .args .answer) (s .args .out .now)) (e .enum-told .given .1) (p .write-plain .ensures)
+
+same-length-2 : tie.Need-same-length-2
+same-length-2 c = search needs
+
+returns-2 : tie.Need-returns-2
+unfolding lineBy
+returns-2 c =
+    let p = c .before .before in
+    let e = p .before .before .before in
+    let s = e .before .before .before .before in
+    wrote-of (λ (a : Ask). lineBy (s .args .number) (s .args .letter) a (s .args .answer) (s .args .out .now)) (e .ask .given .1) (p .write-gift .ensures)
+
+same-length-3 : tie.Need-same-length-3
+same-length-3 c = search needs
+
+returns-3 : tie.Need-returns-3
+unfolding lineBy refusalText
+returns-3 c =
+    let p = c .before .before in
+    let e = p .before .before in
+    let s = e .before .before .before .before in
+    wrote-of (λ (a : Ask). lineBy (s .args .number) (s .args .letter) a (s .args .answer) (s .args .out .now)) (e .enum-told2 .given .1) (p .write-plain2 .ensures)
+
+same-length-4 : tie.Need-same-length-4
+same-length-4 c = search needs
+
+returns-4 : tie.Need-returns-4
+unfolding lineBy
+returns-4 c =
+    let p = c .before .before in
+    let e = p .before .before in
+    let s = e .before .before .before .before in
+    wrote-of (λ (a : Ask). lineBy (s .args .number) (s .args .letter) a (s .args .answer) (s .args .out .now)) (e .enum-told3 .given .1) (p .write-called .ensures)
+
+same-length-5 : tie.Need-same-length-5
+same-length-5 c = search needs
+
+returns-5 : tie.Need-returns-5
+unfolding lineBy refusalText
+returns-5 c =
+    let p = c .before .before in
+    let e = p .before .before in
+    let s = e .before .before .before .before in
+    wrote-of (λ (a : Ask). lineBy (s .args .number) (s .args .letter) a (s .args .answer) (s .args .out .now)) (e .enum-told4 .given .1) (p .write-plain3 .ensures)
+
+pub write-answer-spec : {M : Type 1} → statement M
+write-answer-spec =
+    tie.close
+    (tie.spec
+    enum-told
+    write-plain-requires
+    enum-known-ask
+    write-gift-requires
+    enum-told-2
+    write-plain-requires-2
+    enum-told-3
+    write-called-requires
+    enum-told-4
+    write-plain-requires-3
+    same-length
+    returns
+    same-length-2
+    returns-2
+    same-length-3
+    returns-3
+    same-length-4
+    returns-4
+    same-length-5
+    returns-5)
