@@ -22,7 +22,7 @@ use Rattle.rules.specs.Held.{storedApplet, viewApplets, storedApplets, viewRows
 use Rattle.rules.specs.Applets.{hasNumber, present, applet, newcomer, forget}
 use Rattle.rules.specs.Rows.{withoutRows}
 use Rattle.rules.specs.Timers.{withoutTimers}
-use Rattle.rules.specs.Calls.{AdminCall, admin, install, delete}
+use Rattle.rules.specs.Calls.{AdminCall, admin, install, delete, lock, unlock}
 use Rattle.rules.specs.Desk.{marked, menuChanges, eventsChange}
 use Rattle.rules.specs.Refusals.{line, lowest, lines, absent, adminLines, refusal}
 use Rattle.rules.specs.Step.{step, changed, tablesAfter, deskAfter, adminTables, answer}
@@ -33,12 +33,11 @@ use Rattle.registry.specs.declared.Looked.{Looked}
 use Rattle.registry.specs.Looks.{lookedUp}
 use Rattle.registry.proofs.Table.{there-is, applet-is}
 use Rattle.install.specs.Refuses.{RefusesInstall}
-use Rattle.install.specs.Joins.{withNewcomer}
-use Rattle.install.proofs.Newcomer.{place-left}
+use Rattle.newcomer.specs.Joins.{withNewcomer}
+use Rattle.newcomer.proofs.Newcomer.{place-left}
 use Rattle.listeners.specs.Listens.{anyCode, alone}
 use Rattle.shown.specs.Asked.{isEnabledOf, hasEnabledRow}
 use Rattle.shown.proofs.DueApplets.{install-menu, delete-menu, lock-menu}
-use Rattle.due.specs.Turns.{markedDesk}
 use Rattle.due.proofs.EventTurns.{delete-events, lock-events}
 use Rattle.due.proofs.Quiet.{install-events}
 use Rattle.due.proofs.Marks.{marks-stored, unmarked-desk}
@@ -46,7 +45,7 @@ use Rattle.card.specs.declared.Card.{Card}
 use Rattle.card.specs.declared.Changed.{Changed}
 use Rattle.card.specs.View.{view, stored, Left}
 use Rattle.card.specs.Reply.{changedBy}
-use Rattle.card.specs.Locks.{locking}
+use Rattle.card.specs.Turns.{turnedDesk}
 use Rattle.card.proofs.Left.{left-sound}
 use Rattle.card.proofs.Reply.{card-is, rows-form, bank-form, control-form, desk-form, refused-changed, accepted-changed}
 
@@ -70,6 +69,11 @@ module _ (c : Card) (l : Left c) (x : AdminCall) (zero : 0 ≡ refusal (view c) 
       → Gives c x (record { applets = a; rows = r; bank = b; control = k; desk = d }) Accepted
   unfolding answer
   admin-accepts p q s t v = accepted-changed c l (admin x) zero refl (card-is _ p q s t v ∙ ap stored (sym changes)) refl
+
+-- lock and unlock as one call: the applet becomes selectable, or locked
+abbrev locking : (selectable : Bool) (applet : ℕ) → AdminCall
+locking true n = unlock n
+locking false n = lock n
 
 -- a call about the applet with a number, which was looked up
 module _ (c : Card) (l : Left c) (n : ℕ) (x : Looked) (is : x ≡ lookedUp n (viewApplets (c .applets))) where
@@ -113,10 +117,7 @@ module _ (c : Card) (l : Left c) (n : ℕ) (x : Looked) (is : x ≡ lookedUp n (
 
     -- the desk, where the applet turns if b says so
     abbrev marks : Bool → held-desk.Desk
-    marks b =
-        markedDesk (b && hasEnabledRow (x .applet .number) (viewRows (c .rows)))
-        (b && anyCode (alone (x .applet .events) (x .applet .number) (viewApplets (c .applets))))
-        (c .desk)
+    marks b = turnedDesk c (x .applet) b
 
     marks-are
         : (u : Tables) {a b : Bool}

@@ -31,8 +31,8 @@ use Rattle.card.specs.declared.Changed.{Changed}
 use Rattle.card.specs.declared.Asked.{Asked}
 use Rattle.card.specs.View.{view, stored, Left}
 use Rattle.card.specs.Reply.{changedBy, askedBy}
-use Rattle.card.specs.Registrations.{registering}
 use Rattle.card.proofs.Left.{left-form}
+use Rattle.card.proofs.Registered.{registering}
 use Rattle.card.proofs.Reply.{refused-changed, accepted-changed, refused-asked, accepted-yes, accepted-no}
 
 -- an applet was looked up, and a value's kind is known

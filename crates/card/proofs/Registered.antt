@@ -12,7 +12,7 @@ use Rattle.rules.specs.declared.Applet as held-applet
 use Rattle.rules.specs.declared.Applets.{Applets}
 use Rattle.rules.specs.declared.Desk as held-desk
 use Rattle.rules.specs.declared.Kind.the-variants.{Event}
-use Rattle.rules.specs.Holds.{Tables, withApplets, withControl, withEvent}
+use Rattle.rules.specs.Holds.{Model, Tables, withApplets, withControl, withEvent}
 use Rattle.rules.specs.Events.{callControl}
 use Rattle.rules.specs.Applets.{hasNumber, present, applet, forget, register, withRegistration}
 use Rattle.rules.specs.Desk.{menuChanges, eventsChange, marked}
@@ -28,9 +28,13 @@ use Rattle.due.proofs.Quiet.{control-events}
 use Rattle.due.proofs.Marks.{marked-none, marks-stored}
 use Rattle.card.specs.declared.Card.{Card}
 use Rattle.card.specs.View.{view, stored, Left}
-use Rattle.card.specs.Registrations.{registering}
 use Rattle.card.proofs.Left.{left-sound}
 use Rattle.card.proofs.Reply.{card-is, applets-form, rows-form, bank-form, desk-form}
+
+-- what the card holds with applet n registered for an event, or no longer, and what that changes marked due
+unfoldable pub registering : Model → (number event : ℕ) → Bool → Model
+registering m n e b =
+    record { tables = withRegistration (m .tables) n e b; desk = marked (m .tables) (withRegistration (m .tables) n e b) (m .desk) }
 
 -- the menu is as it was
 menu-stays : (t : Tables) (n p : ℕ) (b : Bool) → menuChanges t (withRegistration t n p b) ≡ false

@@ -1,5 +1,4 @@
--- The card's struct and the rules' model of it, what a method hands back, and what a registration leaves.
+-- The card's struct and the rules' model of it, what a method hands back, and what two calls need to know before they turn something.
 pub mod View
 pub mod Reply
-pub mod Locks
-pub mod Registrations
+pub mod Turns

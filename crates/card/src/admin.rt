@@ -2,6 +2,7 @@
 // An accepted one marks due what it changes of the shown menu and the shown events.
 use crate::Card;
 use crate::Changed;
+use rules::Desk;
 use rules::Done;
 use rules::Request;
 ghost use mathlib.Core.Path.{_≡_};
@@ -9,31 +10,12 @@ ghost use Rattle.rules.specs.Calls.{admin, install, delete, lock, unlock};
 ghost use Rattle.rules.specs.Step.{step};
 ghost use Rattle.card.specs.View.{view, Left};
 ghost use Rattle.card.specs.Reply.{changedBy};
-ghost use Rattle.card.specs.Locks.{locking};
+ghost use Rattle.card.specs.Turns.{TurnsLock};
 
-// Locks the applet, or makes it selectable.
-fn locked(card: Card, applet: u8, on: bool) -> Changed
-    requires { ⌜ Left card ⌝ }
-    ensures { λ r. ⌜ r ≡ changedBy (step (view card) (admin (locking on applet))) ⌝ }
-{
-    let applets = card.applets;
-    let looked = registry::look(applets, applet);
-    if !looked.there {
-        return Changed {
-            card,
-            answer: Done::Refused(2),
-        };
-    }
-    let a = looked.applet;
-    let desk = card.desk;
-    let rows = card.rows;
-    let mut next = card;
-    next.applets = altered::locked(applets, applet, on);
-    next.desk = due::marked_for(desk, a.selectable != on, applets, rows, a);
-    Changed {
-        card: next,
-        answer: Done::Accepted,
-    }
+// What two calls need to know before an applet's lock is turned.
+struct LockTurned {
+    desk: Desk,
+    there: bool,
 }
 
 impl Card {
@@ -46,7 +28,7 @@ impl Card {
         let refusal = install::install_refusal(applets, applet, request);
         if refusal == 0 {
             let mut next = self;
-            next.applets = install::installed(applets, applet, request);
+            next.applets = newcomer::installed(applets, applet, request);
             return Changed {
                 card: next,
                 answer: Done::Accepted,
@@ -88,12 +70,45 @@ impl Card {
         }
     }
 
+    // Whether there is the applet that a call locks, or makes selectable, and the desk after it.
+    fn turn_lock(self, applet: u8, on: bool) -> LockTurned
+        requires { ⌜ Left self ⌝ }
+        ensures { λ r. ⌜ TurnsLock self applet on (r .desk) (r .there) ⌝ }
+    {
+        let applets = self.applets;
+        let rows = self.rows;
+        let desk = self.desk;
+        let looked = registry::look(applets, applet);
+        let a = looked.applet;
+        let due = due::marked_for(desk, a.selectable != on, applets, rows, a);
+        LockTurned {
+            desk: due,
+            there: looked.there,
+        }
+    }
+
     // Locks an applet: it is not called until it is unlocked.
     pub fn lock(self, applet: u8) -> Changed
         requires { ⌜ Left self ⌝ }
         ensures { λ r. ⌜ r ≡ changedBy (step (view self) (admin (lock applet))) ⌝ }
     {
-        locked(self, applet, false)
+        let turned = self.turn_lock(applet, false);
+        if !turned.there {
+            return Changed {
+                card: self,
+                answer: Done::Refused(2),
+            };
+        }
+        let applets = self.applets;
+        let next = altered::locked(applets, applet, false);
+        let due = turned.desk;
+        let mut left = self;
+        left.applets = next;
+        left.desk = due;
+        Changed {
+            card: left,
+            answer: Done::Accepted,
+        }
     }
 
     // Makes an applet selectable again.
@@ -101,6 +116,22 @@ impl Card {
         requires { ⌜ Left self ⌝ }
         ensures { λ r. ⌜ r ≡ changedBy (step (view self) (admin (unlock applet))) ⌝ }
     {
-        locked(self, applet, true)
+        let turned = self.turn_lock(applet, true);
+        if !turned.there {
+            return Changed {
+                card: self,
+                answer: Done::Refused(2),
+            };
+        }
+        let applets = self.applets;
+        let next = altered::locked(applets, applet, true);
+        let due = turned.desk;
+        let mut left = self;
+        left.applets = next;
+        left.desk = due;
+        Changed {
+            card: left,
+            answer: Done::Accepted,
+        }
     }
 }

@@ -3,14 +3,21 @@
 use crate::Card;
 use crate::Changed;
 use crate::Numbered;
+use rules::Desk;
 use rules::Done;
 use rules::Given;
 ghost use mathlib.Core.Path.{_≡_};
-ghost use Rattle.lists.specs.Tests.{if_then_else_};
 ghost use Rattle.rules.specs.Calls.{entry, newEntry, changeEntry, enableEntry, disableEntry};
 ghost use Rattle.rules.specs.Step.{step};
 ghost use Rattle.card.specs.View.{view, Left};
 ghost use Rattle.card.specs.Reply.{changedBy, numberedBy};
+ghost use Rattle.card.specs.Turns.{Turns};
+
+// What two calls need to know before a row is turned.
+struct Turned {
+    desk: Desk,
+    refusal: u8,
+}
 
 impl Card {
     // Makes the applet's next entry: a row at its requested position, with its requested identifier or a free one.
@@ -75,25 +82,37 @@ impl Card {
         }
     }
 
-    // Enables a row of the applet, or disables it.
-    fn turn_entry(self, applet: u8, identifier: u8, on: bool) -> Changed
+    // The refusal of a call that enables a row of the applet, or disables it, and the desk after it.
+    fn turn_entry(self, applet: u8, identifier: u8, on: bool) -> Turned
         requires { ⌜ Left self ⌝ }
-        ensures { λ r. ⌜ r ≡ changedBy (step (view self) (entry (if on then enableEntry applet identifier else disableEntry applet identifier))) ⌝ }
+        ensures { λ r. ⌜ Turns self applet identifier on (r .desk) (r .refusal) ⌝ }
     {
         let applets = self.applets;
         let rows = self.rows;
         let desk = self.desk;
         let looked = registry::look(applets, applet);
         let refusal = refusals::row_refusal(looked.there, rows, applet, identifier);
+        let turns = shown::turns_enabled(rows, identifier, on);
+        let due = due::marked_row(desk, looked.applet.selectable, turns);
+        Turned { desk: due, refusal }
+    }
+
+    // Enables a row of the applet.
+    pub fn enable_entry(self, applet: u8, identifier: u8) -> Changed
+        requires { ⌜ Left self ⌝ }
+        ensures { λ r. ⌜ r ≡ changedBy (step (view self) (entry (enableEntry applet identifier))) ⌝ }
+    {
+        let turned = self.turn_entry(applet, identifier, true);
+        let refusal = turned.refusal;
         if refusal != 0 {
             return Changed {
                 card: self,
                 answer: Done::Refused(refusal),
             };
         }
-        let turns = shown::turns_enabled(rows, identifier, on);
-        let next = rows::enabled(rows, identifier, on);
-        let due = due::marked_row(desk, looked.applet.selectable, turns);
+        let rows = self.rows;
+        let next = rows::enabled(rows, identifier, true);
+        let due = turned.desk;
         let mut left = self;
         left.rows = next;
         left.desk = due;
@@ -103,19 +122,28 @@ impl Card {
         }
     }
 
-    // Enables a row of the applet.
-    pub fn enable_entry(self, applet: u8, identifier: u8) -> Changed
-        requires { ⌜ Left self ⌝ }
-        ensures { λ r. ⌜ r ≡ changedBy (step (view self) (entry (enableEntry applet identifier))) ⌝ }
-    {
-        self.turn_entry(applet, identifier, true)
-    }
-
     // Disables a row of the applet.
     pub fn disable_entry(self, applet: u8, identifier: u8) -> Changed
         requires { ⌜ Left self ⌝ }
         ensures { λ r. ⌜ r ≡ changedBy (step (view self) (entry (disableEntry applet identifier))) ⌝ }
     {
-        self.turn_entry(applet, identifier, false)
+        let turned = self.turn_entry(applet, identifier, false);
+        let refusal = turned.refusal;
+        if refusal != 0 {
+            return Changed {
+                card: self,
+                answer: Done::Refused(refusal),
+            };
+        }
+        let rows = self.rows;
+        let next = rows::enabled(rows, identifier, false);
+        let due = turned.desk;
+        let mut left = self;
+        left.rows = next;
+        left.desk = due;
+        Changed {
+            card: left,
+            answer: Done::Accepted,
+        }
     }
 }

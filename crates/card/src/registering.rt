@@ -2,37 +2,53 @@
 use crate::Asked;
 use crate::Card;
 use crate::Changed;
-use registry::Looked;
+use rules::Desk;
 use rules::Done;
 use rules::Kind;
 use rules::Told;
-ghost use Prim.Native.Nat.{_<_};
 ghost use mathlib.Core.Path.{_≡_};
-ghost use mathlib.Core.Bool.{true};
-ghost use Rattle.rules.specs.Held.{viewApplets};
 ghost use Rattle.rules.specs.Calls.{event, setEvent, clearEvent, askEvent};
 ghost use Rattle.rules.specs.Step.{step};
-ghost use Rattle.registry.specs.Looks.{lookedUp};
-ghost use Rattle.card.specs.View.{view, stored, Left};
+ghost use Rattle.card.specs.View.{view, Left};
 ghost use Rattle.card.specs.Reply.{changedBy, askedBy};
-ghost use Rattle.card.specs.Registrations.{registering};
+ghost use Rattle.card.specs.Turns.{registrationRefusal, TurnsEvent};
+
+// What two calls need to know before a registration is turned.
+struct EventTurned {
+    desk: Desk,
+    place: u8,
+    refusal: u8,
+}
+
+// The refusal of set event, which turns a registration on, or of clear event.
+fn turn_refusal(there: bool, kind: Kind, control: u8, applet: u8, on: bool) -> u8
+    ensures { λ r. ⌜ r ≡ registrationRefusal there kind control applet on ⌝ }
+{
+    if on {
+        return refusals::refusal_to_set(there, kind, control, applet);
+    }
+    refusals::refusal_for(there, kind)
+}
 
 impl Card {
-    // The card with an applet that was looked up registered for an event, or no longer.
-    fn registered(self, number: u8, looked: Looked, place: u8, on: bool) -> Card
-        requires { ⌜ Left self × (looked ≡ lookedUp number (viewApplets (self .applets))) × (looked .there ≡ true) × (place < 20) ⌝ }
-        ensures { λ r. ⌜ r ≡ stored (registering (view self) number place on) ⌝ }
+    // The refusal of a call that registers the applet for an event, or ends its registration, the event's place, and the desk after it.
+    fn turn_event(self, applet: u8, value: i16, on: bool) -> EventTurned
+        requires { ⌜ Left self ⌝ }
+        ensures { λ r. ⌜ TurnsEvent self applet value on (r .desk) (r .place) (r .refusal) ⌝ }
     {
-        let mut left = self;
-        if place == Kind::CALL_CONTROL {
-            left.control = parts::owner_after(self.control, number, on);
-            return left;
-        }
         let applets = self.applets;
+        let desk = self.desk;
+        let looked = registry::look(applets, applet);
+        let kind = events::kind_of(value);
+        let refusal = turn_refusal(looked.there, kind, self.control, applet, on);
+        let place = events::place_of(kind);
         let turns = due::event_turns(applets, looked.applet, place, on);
-        left.applets = altered::registered(applets, number, place, on);
-        left.desk = due::marked(self.desk, false, turns);
-        left
+        let due = due::marked(desk, false, turns);
+        EventTurned {
+            desk: due,
+            place,
+            refusal,
+        }
     }
 
     // Registers an applet for an event.
@@ -40,18 +56,28 @@ impl Card {
         requires { ⌜ Left self ⌝ }
         ensures { λ r. ⌜ r ≡ changedBy (step (view self) (event (setEvent applet value))) ⌝ }
     {
-        let applets = self.applets;
-        let looked = registry::look(applets, applet);
-        let kind = events::kind_of(value);
-        let refusal = refusals::refusal_to_set(looked.there, kind, self.control, applet);
+        let turned = self.turn_event(applet, value, true);
+        let refusal = turned.refusal;
         if refusal != 0 {
             return Changed {
                 card: self,
                 answer: Done::Refused(refusal),
             };
         }
-        let place = events::place_of(kind);
-        let left = self.registered(applet, looked, place, true);
+        let place = turned.place;
+        let mut left = self;
+        if place == Kind::CALL_CONTROL {
+            left.control = applet;
+            return Changed {
+                card: left,
+                answer: Done::Accepted,
+            };
+        }
+        let applets = self.applets;
+        let next = altered::registered(applets, applet, place, true);
+        let due = turned.desk;
+        left.applets = next;
+        left.desk = due;
         Changed {
             card: left,
             answer: Done::Accepted,
@@ -63,18 +89,28 @@ impl Card {
         requires { ⌜ Left self ⌝ }
         ensures { λ r. ⌜ r ≡ changedBy (step (view self) (event (clearEvent applet value))) ⌝ }
     {
-        let applets = self.applets;
-        let looked = registry::look(applets, applet);
-        let kind = events::kind_of(value);
-        let refusal = refusals::refusal_for(looked.there, kind);
+        let turned = self.turn_event(applet, value, false);
+        let refusal = turned.refusal;
         if refusal != 0 {
             return Changed {
                 card: self,
                 answer: Done::Refused(refusal),
             };
         }
-        let place = events::place_of(kind);
-        let left = self.registered(applet, looked, place, false);
+        let place = turned.place;
+        let mut left = self;
+        if place == Kind::CALL_CONTROL {
+            left.control = timers::forgotten(self.control, applet);
+            return Changed {
+                card: left,
+                answer: Done::Accepted,
+            };
+        }
+        let applets = self.applets;
+        let next = altered::registered(applets, applet, place, false);
+        let due = turned.desk;
+        left.applets = next;
+        left.desk = due;
         Changed {
             card: left,
             answer: Done::Accepted,

@@ -1,4 +1,4 @@
--- Laws of kinds: which places a value names, what may be set.
+-- Laws of kinds: which places a value names, and what may be set.
 -- Assumes nothing.
 use mathlib.Core.Path.{_≡_, sym, ap, _∙_}
 use mathlib.Core.Bool.{Bool, true, false}

@@ -1,4 +1,3 @@
 -- Laws of an install.
 pub mod Requests
 pub mod Refusing
-pub mod Newcomer

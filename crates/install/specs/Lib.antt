@@ -1,3 +1,2 @@
--- The refusal of an install, from the applets present, and the table with the newcomer.
+-- The refusal of an install, from the applets present.
 pub mod Refuses
-pub mod Joins

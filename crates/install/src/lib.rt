@@ -1,4 +1,6 @@
-// Install: the refusals 2 to 6 for a raw request, and the table with the newcomer at its end.
+// Install: the refusals 2 to 6 for a raw request.
+// Its pairs are those that a newcomer would be held with.
+use newcomer::looked_at;
 use rules::Applet;
 use rules::Applets;
 use rules::Bank;
@@ -6,19 +8,17 @@ use rules::Pair;
 use rules::Request;
 use rules::Row;
 use rules::Rows;
-ghost use Prim.Native.Nat.{_≤_, _<_};
+ghost use Prim.Native.Nat.{_<_};
 ghost use mathlib.Core.Path.{_≡_};
 ghost use mathlib.Core.Bool.{not, _&&_, _||_};
-ghost use lib.ListN.{length, drop};
+ghost use lib.ListN.{drop};
 ghost use Rattle.lists.specs.Tests.{_==_, _<?_};
-ghost use Rattle.lists.specs.Lists.{some?, padded, sum, in?, repeats?};
+ghost use Rattle.lists.specs.Lists.{some?, sum, in?, repeats?};
 ghost use Rattle.rules.specs.declared.Pair as pair;
 ghost use Rattle.rules.specs.Holds.{document};
-ghost use Rattle.rules.specs.Applets.{lookedAt, outOfRange, entries, requested, newcomer};
-ghost use Rattle.rules.specs.Rows.{noPair};
-ghost use Rattle.rules.specs.Held.{storedApplet, viewApplets, storedApplets, TidyApplets};
+ghost use Rattle.rules.specs.Applets.{outOfRange, entries, requested};
+ghost use Rattle.rules.specs.Held.{viewApplets, TidyApplets};
 ghost use Rattle.install.specs.Refuses.{RefusesInstall, taken, asksFor};
-ghost use Rattle.install.specs.Joins.{withNewcomer};
 
 // The last applet number; the most that a request may ask for; the most that all may.
 const LAST_APPLET: u8 = Applets::MOST as u8;
@@ -30,69 +30,6 @@ const MOST_ENTRIES: u8 = Applet::ENTRIES as u8;
 const MOST_TEXT: u8 = Row::TEXT as u8;
 
 const MOST_ROWS: u32 = Rows::MOST as u32;
-
-// How many pairs are looked at: as many as the entry limit, of the four that there are.
-fn pair_count(request: Request) -> u8
-    ensures { λ r. ⌜ (r ≡ length (lookedAt request)) × (r ≤ 4) ⌝ }
-{
-    if MOST_ENTRIES < request.entries {
-        return MOST_ENTRIES;
-    }
-    request.entries
-}
-
-// The pairs that are looked at, with blanks behind.
-fn looked_at(request: Request) -> [Pair; Applet::ENTRIES]
-    ensures { λ r. ⌜ r ≡ padded 4 noPair (lookedAt request) ⌝ }
-{
-    let all = request.pairs;
-    let n = pair_count(request) as usize;
-    let mut pairs = [Pair {
-        position: 0,
-        identifier: 0,
-    }; Applet::ENTRIES];
-    let mut i = 0;
-    while i < n {
-        pairs[i] = all[i];
-        i += 1;
-    }
-    pairs
-}
-
-// The applet that an accepted install makes.
-fn new_applet(number: u8, request: Request) -> Applet
-    ensures { λ r. ⌜ r ≡ storedApplet (newcomer number request) ⌝ }
-{
-    let entries = pair_count(request);
-    let pairs = looked_at(request);
-    Applet {
-        number,
-        priority: request.priority,
-        timers: request.timers,
-        entries,
-        text: request.text,
-        made: 0,
-        selectable: true,
-        pairs,
-        events: [false; Applet::EVENTS],
-    }
-}
-
-// The applets with a newcomer behind them; a full table stays as it is.
-pub fn installed(s: Applets, number: u8, request: Request) -> Applets
-    requires { ⌜ TidyApplets s ⌝ }
-    ensures { λ r. ⌜ r ≡ storedApplets (withNewcomer number request (viewApplets s)) ⌝ }
-{
-    let n = s.count as usize;
-    if n < Applets::MOST {
-        let a = new_applet(number, request);
-        let mut r = s;
-        r.at[n] = a;
-        r.count += 1;
-        return r;
-    }
-    s
-}
 
 // Whether one of the pairs from an index on requests an identifier.
 fn asks(pairs: [Pair; Applet::ENTRIES], from: usize, identifier: u8) -> bool

@@ -27,3 +27,4 @@ pub mod Changes
 pub mod Writing
 pub mod Scan
 pub mod Parts
+pub mod WrittenParts

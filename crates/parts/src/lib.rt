@@ -18,7 +18,6 @@ ghost use lib.ListN.{getD};
 ghost use Rattle.lists.specs.Tests.{if_then_else_, _==_};
 ghost use Rattle.rules.specs.Events.{callControl};
 ghost use Rattle.rules.specs.Rows.{noPair};
-ghost use Rattle.rules.specs.Applets.{forget};
 ghost use Rattle.rules.specs.Arrivals.{responds, envelopeMarks, proactiveOnly};
 ghost use Rattle.rules.specs.Held.{viewApplets, viewRows, TidyApplets, TidyRows};
 ghost use Rattle.callers.specs.Listed.{listed};
@@ -189,19 +188,6 @@ pub fn handed_out(desk: Desk) -> Desk
         return next;
     }
     desk
-}
-
-// The owner of call control once an applet is registered for it, or no longer.
-pub fn owner_after(control: u8, number: u8, on: bool) -> u8
-    ensures { λ r. ⌜ r ≡ (if on then number else forget number control) ⌝ }
-{
-    if on {
-        return number;
-    }
-    if control == number {
-        return 0;
-    }
-    control
 }
 
 // Whether an applet is registered for an event; call control has one owner.

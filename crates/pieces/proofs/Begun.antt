@@ -19,7 +19,7 @@ use Rattle.card.proofs.Left.{left-form}
 use Rattle.records.specs.declared.Obeyed.{Obeyed}
 use Rattle.records.specs.Obeys.{Obeys}
 use Rattle.pieces.specs.Pieces.{recordsIn, linesOf, cardAfter, ObeysAll}
-use Rattle.pieces.proofs.Parts.{wrote-within, wrote-part}
+use Rattle.lists.proofs.WrittenParts.{wrote-within, wrote-part}
 use Rattle.pieces.proofs.Reached.{reached-by-card, reached-left, reached-seen, reached-again}
 use Rattle.pieces.proofs.PieceLaws.{lines-none, card-none, lines-first, card-first}
 

@@ -1,5 +1,4 @@
 -- The laws of pieces, and the promise of the floor program.
-pub mod Parts
 pub mod Reached
 pub mod PieceLaws
 pub mod Begun

@@ -16,7 +16,7 @@ use Rattle.card.proofs.Left.{view-stored}
 use Rattle.card.proofs.FreshLaws.{fresh-left}
 use Rattle.pieces.specs.Pieces.{linesOf}
 use Rattle.pieces.specs.Turns.{Whole, Turns, none, turn}
-use Rattle.pieces.proofs.Parts.{wrote-front}
+use Rattle.lists.proofs.WrittenParts.{wrote-front}
 use Rattle.pieces.proofs.PieceLaws.{lines-none}
 use Rattle.pieces.proofs.Reached.{reached-by-card, reached-seen, reached-after}
 use Rattle.pieces.proofs.Joined.{piece-join, whole-rest}

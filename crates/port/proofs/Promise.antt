@@ -6,7 +6,7 @@ use mathlib.Core.List.{List}
 use Rattle.rules.specs.Holds.{Model}
 use Rattle.rules.specs.Calls.{Outcome, Call, only}
 use Rattle.rules.specs.Refusals.{refusal}
-use Rattle.rules.specs.Step.{step, lent}
+use Rattle.rules.specs.Step.{lent}
 use Rattle.rules.proofs.Refused.{refused}
 use Rattle.card.specs.declared.Card.{Card}
 use Rattle.paper.specs.declared.Answer.{Answer}

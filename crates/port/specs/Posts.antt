@@ -6,9 +6,7 @@ use Rattle.rules.specs.Holds.{Model}
 use Rattle.rules.specs.Calls.{Outcome, Call, only, admin, event, entry, timer, arrival, settled, proactive, systemCommand}
 use Rattle.rules.specs.Step.{step}
 use Rattle.card.specs.declared.Card.{Card}
-use Rattle.card.specs.declared.Numbered.{Numbered}
 use Rattle.card.specs.View.{stored, Left}
-use Rattle.card.specs.Reply.{numberedBy}
 use Rattle.paper.specs.declared.Answer.{Answer}
 use Rattle.paper.specs.Answers.{storedAnswer}
 use Rattle.port.specs.declared.Posted.{Posted}
@@ -25,9 +23,13 @@ lentAfter settled written out = out
 lentAfter (proactive c) written out = out
 lentAfter (systemCommand buffer) written out = written
 
+-- the card and the answer of an outcome, as structs
+unfoldable pub postedBy : Outcome → Posted
+postedBy o = record { card = stored (o .after); answer = storedAnswer (o .answer) }
+
 -- a call that gives a number has this result, and leaves the lent buffer so
-abbrev pub Gives : Model → Call → (out end : List ℕ) → Numbered → Type 0
-Gives m x out end r = (r ≡ numberedBy (step m x)) × (end ≡ lentAfter x (step m x .buffer) out)
+abbrev pub Gives : Model → Call → (out end : List ℕ) → Posted → Type 0
+Gives m x out end r = (r ≡ postedBy (step m x)) × (end ≡ lentAfter x (step m x .buffer) out)
 
 -- WHAT THE DOOR DOES: the rules' step; or, with a refusal of its own, nothing.
 unfoldable pub posted : Model → Asked → (out : List ℕ) → Outcome

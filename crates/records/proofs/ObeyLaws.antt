@@ -1,14 +1,13 @@
 -- Laws of a record obeyed: from what it asks for, what the door posts and the line that is written, what the rules say of the record.
 -- Assumes nothing.
-use Prim.Native.Nat.{ℕ, _+_, _-_, _≤_}
+use Prim.Native.Nat.{ℕ, _≤_}
 use Prim.Native.Char.{code}
-use native.Mathlib.Omega.{arith}
 use mathlib.Core.Path.{_≡_, refl, sym, ap, _∙_}
 use mathlib.Core.Bool.{Bool, true, false, _&&_}
 use mathlib.Core.List.{List, []}
-use lib.ListN.{length, take, drop, replicate, length-append, length-take}
+use lib.ListN.{length, replicate}
 use Rattle.lists.specs.Tests.{if_then_else_, _==_, _≤?_}
-use Rattle.lists.specs.Wrote.{putAt, Wrote}
+use Rattle.lists.specs.Wrote.{Wrote}
 use Rattle.lists.proofs.Decided.{clashing}
 use Rattle.lists.proofs.Ifs.{if-holds}
 use Rattle.lists.proofs.Padded.{take-padded}
@@ -34,8 +33,7 @@ use Rattle.port.specs.Posts.{lentAfter, posted, Posts}
 use Rattle.orders.specs.Orders.{argumentsOf, orderFor, ordered}
 use Rattle.answers.specs.Shown.{shownGift, lineBy}
 use Rattle.card.specs.declared.Card.{Card}
-use Rattle.card.specs.View.{view, stored, Left}
-use Rattle.card.proofs.Left.{left-form, left-again}
+use Rattle.card.specs.View.{stored}
 use Rattle.records.specs.declared.Obeyed.{Obeyed}
 use Rattle.records.specs.Obeys.{Obeys}
 
@@ -157,20 +155,3 @@ at-record k letter a m s l ask {out = out} e ea el q p same w =
       wrote =
           wrote-as (ap (λ (x : Answer). lineBy k letter ask x out) (p .answer-is) ∙ ap (lineBy k letter ask (storedAnswer (post k letter a m l ask .answer))) (p .buffer-is) ∙ line-is k letter a m l ask (rw made (orderly-all s)) ∙ ap (λ (o : floor.Obeyed). o .line) all) w;
     }
-
--- a record leaves a card that calls have left, and its line ends within the buffer
-pub left-record : (k : ℕ) (c : Card) (s : List ℕ) (d : Card) → Left c → d ≡ stored (stepLine k (view c) s .card) → Left d
-unfolding stepLine floor.obey obeyed
-left-record k c s d left e = rw e (go (orderOf s))
-  where
-    go : (o : floor.Order) → Left (stored (floor.obey k (byte s 0) (view c) o .card))
-    go (floor.call x) = left-again c x left
-    go floor.noCall = rw (sym (left-form c left)) left
-
-pub line-within : {b s d : List ℕ} {n : ℕ} → Wrote b 0 s d n → n ≤ length b
-unfolding putAt
-line-within {b} {s} {d} w = omega (arith, w .next, w .long, ap length (w .after), length-append s (drop (0 + length s) b))
-
--- and has at most as many bytes as the part of the buffer that it was given
-pub line-short : (out : List ℕ) (at : ℕ) {s d : List ℕ} {n : ℕ} → Wrote (take (at + 540 - at) (drop at out)) 0 s d n → n ≤ 540
-line-short out at w = omega (arith, line-within w, length-take (at + 540 - at) (drop at out))

@@ -150,7 +150,7 @@ pub fn release(bank: Bank, applet: u8, timer: u8) -> Released
     }
 }
 
-// What is left of an owner when an applet is deleted.
+// What is left of an owner once an applet owns nothing.
 pub fn forgotten(owner: u8, applet: u8) -> u8
     ensures { λ r. ⌜ r ≡ forget applet owner ⌝ }
 {

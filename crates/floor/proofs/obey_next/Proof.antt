@@ -4,7 +4,7 @@ use native.Mathlib.Omega.{arith}
 use mathlib.Core.Path.{sym}
 use lib.Seq.{length-take-le}
 use borrow.Author.Needs.{needs}
-use Rattle.pieces.proofs.Parts.{wrote-within}
+use Rattle.lists.proofs.WrittenParts.{wrote-within}
 use Rattle.floor.proofs.Turns.{turned-none, turned-piece}
 use Rattle.floor.proofs.obey_next.Statement.{statement}
 use Rattle.floor.proofs.obey_next.Tie as tie

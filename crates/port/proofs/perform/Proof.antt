@@ -1,6 +1,6 @@
 -- `port::perform` meets its contract.
 -- Assumes nothing.
-use mathlib.Core.Path.{refl, ap, _∙_}
+use mathlib.Core.Path.{refl, sym, ap, _∙_}
 use lib.IntN.{ℤ}
 use mir.Syntax.{w16}
 use mir.ValLaws.{toZ-ofZ}
@@ -8,10 +8,10 @@ use denote.Ref.{now}
 use Rattle.rules.specs.Calls.{event, askEvent}
 use Rattle.rules.specs.Step.{step}
 use Rattle.card.specs.View.{view}
-use Rattle.card.specs.Reply.{askedBy}
 use Rattle.asks.specs.Asks.{callOf}
 use Rattle.asks.proofs.AskLaws.{call-as}
-use Rattle.port.proofs.PostLaws.{changes, numbers, tells, names, turns}
+use Rattle.port.specs.Posts.{lentAfter, postedBy}
+use Rattle.port.proofs.PostLaws.{does, arrives, left-by-deeds, left-by-arrivals, makes, turns}
 use borrow.Author.Needs.{needs}
 use Rattle.port.proofs.perform.Statement.{statement}
 use Rattle.port.proofs.perform.Tie as tie
@@ -22,17 +22,11 @@ enum-known-ask c = search needs
 do-deed-requires : tie.Need-do-deed-requires
 do-deed-requires c κs = search needs
 
-changed-requires : tie.Need-changed-requires
-changed-requires c κs = search needs
-
 enum-known-ask-2 : tie.Need-enum-known-ask-2
 enum-known-ask-2 c = search needs
 
 give-requires : tie.Need-give-requires
 give-requires c κs = search needs
-
-numbered-requires : tie.Need-numbered-requires
-numbered-requires c κs = search needs
 
 enum-told : tie.Need-enum-told
 enum-told c = search needs
@@ -43,17 +37,11 @@ value-of-requires c κs = search needs
 ask-event-requires : tie.Need-ask-event-requires
 ask-event-requires c κs = search needs
 
-told-requires : tie.Need-told-requires
-told-requires c κs = search needs
-
 enum-known-ask-3 : tie.Need-enum-known-ask-3
 enum-known-ask-3 c = search needs
 
 name-requires : tie.Need-name-requires
 name-requires c κs = search needs
-
-arrived-requires : tie.Need-arrived-requires
-arrived-requires c κs = search needs
 
 enum-told-2 : tie.Need-enum-told-2
 enum-told-2 c = search needs
@@ -64,9 +52,9 @@ turned-requires c κs = search needs
 returns : tie.Need-returns
 unfolding callOf
 returns c =
-    let e = c .before .before .before in
+    let e = c .before .before in
     let s = e .before .before .before .before in
-    changes (s .args .card) (s .pre) _ _ _ _ _ _ (call-as (s .args .applet) (now (s .args .bytes)) (now (s .args .out)) (e .ask .given .1)) _ (c .before .do-deed .ensures) _ (c .changed .ensures) refl
+    makes (s .args .card) (s .pre) _ _ _ (call-as (s .args .applet) (now (s .args .bytes)) (now (s .args .out)) (e .ask .given .1)) _ (c .do-deed .ensures) (sym (left-by-deeds _ _ (does _ _ _)))
 
 same-length : tie.Need-same-length
 same-length c = search needs
@@ -74,24 +62,24 @@ same-length c = search needs
 returns-2 : tie.Need-returns-2
 unfolding callOf
 returns-2 c =
-    let p = c .before .before .before in
+    let p = c .before .before in
     let e = p .before .before .before in
     let s = e .before .before .before .before in
-    numbers (s .args .card) (s .pre) _ _ _ _ _ _ (call-as (s .args .applet) (now (s .args .bytes)) (now (s .args .out)) (e .ask2 .given .1)) _ (p .give .ensures) _ (c .numbered .ensures)
+    makes (s .args .card) (s .pre) _ _ _ (call-as (s .args .applet) (now (s .args .bytes)) (now (s .args .out)) (e .ask2 .given .1)) _ (p .give .ensures .0) (p .give .ensures .1)
 
 returns-3 : tie.Need-returns-3
-unfolding callOf
+unfolding callOf lentAfter
 returns-3 c =
-    let e = c .before .before .before in
+    let e = c .before .before in
     let s = e .before .before .before .before in
-    tells (s .args .card) (s .pre) _ _ _ (call-as (s .args .applet) (now (s .args .bytes)) (now (s .args .out)) (e .enum-told .given .1)) _ (c .before .ask-event .ensures ∙ ap (λ (v : ℤ). askedBy (step (view (s .args .card)) (event (askEvent (s .args .applet) v)))) (toZ-ofZ w16 _ (record { sfits = c .before .before .value-of .ok }) ∙ c .before .before .value-of .ensures)) _ (c .told .ensures) refl
+    makes (s .args .card) (s .pre) _ _ _ (call-as (s .args .applet) (now (s .args .bytes)) (now (s .args .out)) (e .enum-told .given .1)) _ (c .ask-event .ensures ∙ ap (λ (v : ℤ). postedBy (step (view (s .args .card)) (event (askEvent (s .args .applet) v)))) (toZ-ofZ w16 _ (record { sfits = c .before .value-of .ok }) ∙ c .before .value-of .ensures)) refl
 
 returns-4 : tie.Need-returns-4
 unfolding callOf
 returns-4 c =
-    let e = c .before .before .before in
+    let e = c .before .before in
     let s = e .before .before .before .before in
-    names (s .args .card) (s .pre) _ _ _ _ _ (call-as (s .args .applet) (now (s .args .bytes)) (now (s .args .out)) (e .ask3 .given .1)) _ (c .before .name .ensures) _ (c .arrived .ensures) refl
+    makes (s .args .card) (s .pre) _ _ _ (call-as (s .args .applet) (now (s .args .bytes)) (now (s .args .out)) (e .ask3 .given .1)) _ (c .name .ensures) (sym (left-by-arrivals _ _ (arrives _ _)))
 
 returns-5 : tie.Need-returns-5
 unfolding callOf
@@ -106,17 +94,13 @@ perform-spec =
     (tie.spec
     enum-known-ask
     do-deed-requires
-    changed-requires
     enum-known-ask-2
     give-requires
-    numbered-requires
     enum-told
     value-of-requires
     ask-event-requires
-    told-requires
     enum-known-ask-3
     name-requires
-    arrived-requires
     enum-told-2
     turned-requires
     returns

@@ -1,7 +1,16 @@
--- `turn_entry`: enable or disable, refused or accepted by the table; the menu is marked where the row of a selectable applet turns.
+-- `turn_entry`: the refusal by the table; the menu is marked where the row of a selectable applet turns.
 -- Assumes nothing.
+use mathlib.Core.Path.{ap, _∙_}
+use mathlib.Core.Bool.{Bool, false, not, _&&_}
+use mathlib.Core.List.{[], _∷_}
+use Rattle.rules.specs.Held.{viewApplets, viewRows}
+use Rattle.rules.specs.Rows.{notItsRow}
+use Rattle.rules.specs.Refusals.{line, lowest}
+use Rattle.registry.specs.declared.Looked.{Looked}
+use Rattle.registry.specs.Looks.{lookedUp}
+use Rattle.due.specs.Turns.{markedDesk}
 use Rattle.card.proofs.Left.{tidy-applets, tidy-rows}
-use Rattle.card.proofs.EntryLaws.{turn-refused, turn-accepted}
+use borrow.Author.Needs.{needs}
 use Rattle.card.proofs.Card.turn_entry.Statement.{statement}
 use Rattle.card.proofs.Card.turn_entry.Tie as tie
 
@@ -11,30 +20,20 @@ look-requires c κs = tidy-applets _ (c .before .before .before .pre)
 row-refusal-requires : tie.Need-row-refusal-requires
 row-refusal-requires c κs = tidy-rows _ (c .before .before .before .before .pre)
 
-returns : tie.Need-returns
-returns c =
-    let b = c .before in
-    let s = b .before .before .before .before .before in
-    turn-refused (s .args .self) (s .pre) (s .args .applet) (s .args .identifier) (s .args .on) (b .before .look .result) (b .before .look .ensures) (b .row-refusal .ensures) (c .if1 .taken)
-
 turns-enabled-requires : tie.Need-turns-enabled-requires
-turns-enabled-requires c κs = tidy-rows _ (c .before .before .before .before .before .before .pre)
-
-enabled-requires : tie.Need-enabled-requires
-enabled-requires c κs = tidy-rows _ (c .before .before .before .before .before .before .before .pre)
+turns-enabled-requires c κs = tidy-rows _ (c .before .before .before .before .before .pre)
 
 marked-row-requires : tie.Need-marked-row-requires
-marked-row-requires c κs = tt
+marked-row-requires c κs = search needs
 
-returns-2 : tie.Need-returns-2
-returns-2 c =
-    let b = c .before .before .before .before in
-    let s = b .before .before .before .before .before in
-    turn-accepted (s .args .self) (s .pre) (s .args .applet) (s .args .identifier) (s .args .on) (b .before .look .result) (b .before .look .ensures) (b .row-refusal .ensures)
-    (c .before .before .before .if1 .left)
-    (c .before .before .turns-enabled .ensures)
-    (c .before .enabled .ensures)
-    (c .marked-row .ensures)
+returns : tie.Need-returns
+returns c =
+    let l = c .before .before .before in
+    let s = l .before .before .before .before in (
+      c .before .before .row-refusal .ensures ∙ ap (λ (x : Looked). lowest (line 2 (not (x .there)) ∷ line 11 (notItsRow (s .args .applet) (s .args .identifier) (viewRows (s .args .self .rows))) ∷ [])) (l .look .ensures),
+      c .marked-row .ensures ∙ ap (λ (x : Looked). markedDesk (x .applet .selectable && c .before .turns-enabled .result) false (s .args .self .desk)) (l .look .ensures)
+          ∙ ap (λ (b : Bool). markedDesk (lookedUp (s .args .applet) (viewApplets (s .args .self .applets)) .applet .selectable && b) false (s .args .self .desk)) (c .before .turns-enabled .ensures),
+    )
 
 pub turn-entry-spec : {M : Type 1} → statement M
 turn-entry-spec =
@@ -42,8 +41,6 @@ turn-entry-spec =
     (tie.spec
     look-requires
     row-refusal-requires
-    returns
     turns-enabled-requires
-    enabled-requires
     marked-row-requires
-    returns-2)
+    returns)

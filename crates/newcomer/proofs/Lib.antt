@@ -1,0 +1,2 @@
+-- One more applet behind those of a table.
+pub mod Newcomer

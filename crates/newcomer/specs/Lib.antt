@@ -1,0 +1,2 @@
+-- The table with the newcomer.
+pub mod Joins
