@@ -1,2 +1,3 @@
 -- Laws of the table of applets.
 pub mod Table
+pub mod Tidy

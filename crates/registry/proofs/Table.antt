@@ -1,5 +1,4 @@
--- What follows of a table of applets in its one form: what is read in a place, what the look-up gives, and that a
--- stored table is in its one form again.
+-- What follows of a table of applets in its one form: what is read in a place, and what the look-up gives.
 -- Assumes nothing.
 use Prim.Native.Nat.{ℕ, _+_, _≤_, _<_}
 use native.Mathlib.Omega.{arith}
