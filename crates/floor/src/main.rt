@@ -4,7 +4,9 @@ use card::Card;
 use libc::STDIN_FILENO;
 use libc::STDOUT_FILENO;
 use pieces::obey_all;
+ghost use mathlib.Core.Path.{_≡_};
 ghost use Prim.Native.Nat.{_+_, _^_, _<_};
+ghost use lib.ListN.{length};
 ghost use Rattle.card.specs.View.{Left};
 ghost use Rattle.floor.specs.Turned.{Turned};
 
@@ -15,15 +17,14 @@ struct Stand {
     more: bool,
 }
 
-// Reads a piece of input, obeys its records and writes their lines; nothing read is the end.
-fn obey_next(stand: Stand) -> Stand
-    requires { ⌜ Left (stand .card) × (stand .number + 64 < 2 ^ 64) ⌝ }
+// Reads a piece of input, obeys its records and writes their lines, by way of the two lent buffers; nothing read is the end.
+fn obey_next(stand: Stand, input: &mut [u8], out: &mut [u8]) -> Stand
+    requires { ⌜ Left (stand .card) × (stand .number + 512 < 2 ^ 64) × (length (now input) ≡ 12288) × (length (now out) ≡ 276480) ⌝ }
     ensures { λ r. ⌜ Turned (stand .card) (stand .number) r ⌝ }
 {
     let card = stand.card;
     let number = stand.number;
-    let mut input = [0u8; 1536];
-    let n = io::read_full(STDIN_FILENO, &mut input);
+    let n = io::read_full(STDIN_FILENO, input);
     if n == 0 {
         return Stand {
             card,
@@ -31,8 +32,7 @@ fn obey_next(stand: Stand) -> Stand
             more: false,
         };
     }
-    let mut out = [0u8; 34560];
-    let run = obey_all(card, number, &input[..n], &mut out);
+    let run = obey_all(card, number, &input[..n], out);
     let left = run.card;
     let length = run.length;
     let more = io::write_all(STDOUT_FILENO, &out[..length]);
@@ -52,9 +52,11 @@ fn obey_input(card: Card)
         number: 1,
         more: true,
     };
-    let mut turns = u64::MAX / 64;
+    let mut input = [0; 12288];
+    let mut out = [0; 276480];
+    let mut turns = u64::MAX / 512;
     while turns > 0 && stand.more {
-        stand = obey_next(stand);
+        stand = obey_next(stand, &mut input, &mut out);
         turns -= 1;
     }
 }

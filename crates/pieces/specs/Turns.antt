@@ -1,4 +1,4 @@
--- The turns of the floor program over the pieces of its input. It reads 1536 bytes at a time, 64 records; what is read last may be shorter.
+-- The turns of the floor program over the pieces of its input. It reads 12288 bytes at a time, 512 records; what is read last may be shorter.
 use Prim.Native.Nat.{ℕ, _%_}
 use mathlib.Core.Path.{_≡_}
 use mathlib.Core.List.{List, [], _∷_, _++_}

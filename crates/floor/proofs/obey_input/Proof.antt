@@ -1,19 +1,28 @@
 -- `floor::obey_input` meets its contract: the turns fall, and the numbers of the records of those that are left fit.
 -- Assumes nothing.
 use Prim.Native.Nat.{_+_, _*_, _^_, _<_}
+use mathlib.Core.Path.{_≡_}
+use lib.ListN.{length}
 use borrow.Author.Needs.{needs}
 use Rattle.card.specs.View.{Left}
 use Rattle.floor.proofs.obey_input.Statement.{statement}
 use Rattle.floor.proofs.obey_input.Tie as tie
 
 abbrev Inv-loop : tie.InvT-loop
-Inv-loop stand₀ turns₀ stand turns = Left (stand .card) × (stand .number + 64 * turns < 2 ^ 64)
+Inv-loop stand₀ input₀ out₀ turns₀ stand input out turns =
+    Left (stand .card) × (stand .number + 512 * turns < 2 ^ 64) × (length input ≡ 12288) × (length out ≡ 276480)
 
 abbrev μ-loop : tie.MeasureT-loop
-μ-loop stand₀ turns₀ stand turns = turns
+μ-loop stand₀ input₀ out₀ turns₀ stand input out turns = turns
 
 loop-holds : tie.Need-loop-holds Inv-loop μ-loop
 loop-holds c = search needs
+
+slice-aggregate-obey-next : tie.Need-slice-aggregate-obey-next Inv-loop μ-loop
+slice-aggregate-obey-next c = search needs
+
+slice-aggregate-obey-next-2 : tie.Need-slice-aggregate-obey-next-2 Inv-loop μ-loop
+slice-aggregate-obey-next-2 c = search needs
 
 obey-next-requires : tie.Need-obey-next-requires Inv-loop μ-loop
 obey-next-requires c κs = search needs
@@ -40,6 +49,8 @@ obey-input-spec =
     Inv-loop
     μ-loop
     loop-holds
+    slice-aggregate-obey-next
+    slice-aggregate-obey-next-2
     obey-next-requires
     sub-turns
     loop-less

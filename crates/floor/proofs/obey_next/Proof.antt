@@ -1,4 +1,4 @@
--- `floor::obey_next` meets its contract: a piece has at most 64 records, whose lines fit.
+-- `floor::obey_next` meets its contract: a piece has at most 512 records, whose lines fit.
 -- Assumes nothing.
 use native.Mathlib.Omega.{arith}
 use mathlib.Core.Path.{sym}
@@ -9,51 +9,59 @@ use Rattle.floor.proofs.Turns.{turned-none, turned-piece}
 use Rattle.floor.proofs.obey_next.Statement.{statement}
 use Rattle.floor.proofs.obey_next.Tie as tie
 
-slice-aggregate-read-full : tie.Need-slice-aggregate-read-full
-slice-aggregate-read-full c = search needs
-
 read-full-requires : tie.Need-read-full-requires
 read-full-requires c κs = search needs
 
-returns : tie.Need-returns
-returns c = turned-none _ _ _ (c .before .before .before .before .before .pre .0)
+same-length : tie.Need-same-length
+same-length c = search needs
 
-array-share-prefix-input : tie.Need-array-share-prefix-input
-array-share-prefix-input c = search needs
+returns : tie.Need-returns
+returns c = turned-none _ _ _ (c .before .before .before .before .before .before .before .before .pre .0)
+
+slice-reshare-prefix-obey-all : tie.Need-slice-reshare-prefix-obey-all
+slice-reshare-prefix-obey-all c = search needs
 
 slice-aggregate-obey-all : tie.Need-slice-aggregate-obey-all
 slice-aggregate-obey-all c = search needs
 
-slice-aggregate-obey-all-2 : tie.Need-slice-aggregate-obey-all-2
-slice-aggregate-obey-all-2 c = search needs
-
 obey-all-requires : tie.Need-obey-all-requires
 obey-all-requires c κs = search needs
 
-array-share-prefix-out : tie.Need-array-share-prefix-out
-array-share-prefix-out c = omega (arith, wrote-within (c .before .before .obey-all .ensures .wrote))
+slice-reshare-prefix-write-all : tie.Need-slice-reshare-prefix-write-all
+slice-reshare-prefix-write-all c =
+    let o = c .before .before .before .obey-all .ensures .wrote in
+    omega (arith, wrote-within o, o .long)
 
 slice-aggregate-write-all : tie.Need-slice-aggregate-write-all
-slice-aggregate-write-all c = let p = c .before .before .before in sym (length-take-le _ _ (omega (arith, wrote-within (p .obey-all .ensures .wrote), p .obey-all .ensures .wrote .long)))
+slice-aggregate-write-all c =
+    let o = c .before .before .before .before .obey-all .ensures .wrote in
+    sym (length-take-le _ _ (omega (arith, wrote-within o, o .long)))
 
 write-all-requires : tie.Need-write-all-requires
 write-all-requires c κs = search needs
 
+same-length-2 : tie.Need-same-length-2
+same-length-2 c = search needs
+
+same-length-3 : tie.Need-same-length-3
+same-length-3 c = search needs
+
 returns-2 : tie.Need-returns-2
-returns-2 c = turned-piece _ _ _ (omega arith) (c .before .before .before .before .obey-all .ensures)
+returns-2 c = turned-piece _ _ _ (omega arith) (c .before .before .before .before .before .obey-all .ensures)
 
 pub obey-next-spec : {M : Type 1} → statement M
 obey-next-spec =
     tie.close
     (tie.spec
-    slice-aggregate-read-full
     read-full-requires
+    same-length
     returns
-    array-share-prefix-input
+    slice-reshare-prefix-obey-all
     slice-aggregate-obey-all
-    slice-aggregate-obey-all-2
     obey-all-requires
-    array-share-prefix-out
+    slice-reshare-prefix-write-all
     slice-aggregate-write-all
     write-all-requires
+    same-length-2
+    same-length-3
     returns-2)
