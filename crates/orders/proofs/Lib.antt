@@ -1,2 +1,3 @@
 -- The laws of orders.
 pub mod OrderLaws
+pub mod WordLaws

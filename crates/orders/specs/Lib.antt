@@ -1,2 +1,3 @@
--- What an order means.
+-- What an order means, and bytes as one number.
 pub mod Orders
+pub mod Words

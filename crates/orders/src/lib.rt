@@ -1,5 +1,7 @@
 // What a record of the floor program asks for, and the arguments that the call takes.
 // What a record makes stands in `rules`, specs/Floor.antt.
+mod blanks;
+
 use asks::Arrival;
 use asks::Ask;
 use asks::Deed;
@@ -9,11 +11,7 @@ use asks::first;
 use asks::fits;
 use asks::from;
 ghost use mathlib.Core.Path.{_≡_};
-ghost use Prim.Native.Nat.{_≤_};
-ghost use lib.Dec.{eqb};
-ghost use lib.ListN.{length, drop};
 ghost use Rattle.lists.specs.Tests.{if_then_else_};
-ghost use Rattle.lists.specs.Lists.{every?};
 ghost use Rattle.rules.specs.Bytes.{byte};
 ghost use Rattle.rules.specs.Floor.{filled, orderOf};
 ghost use Rattle.asks.specs.declared.Ask.the-variants.{Unknown};
@@ -27,21 +25,6 @@ pub fn arguments(bytes: &[u8]) -> &[u8]
     first(from(bytes, 3), n)
 }
 
-// Every byte from an index on is 00.
-fn blank_from(s: &[u8], at: usize) -> bool
-    requires { ⌜ at ≤ length (now s) ⌝ }
-    ensures { λ r. ⌜ r ≡ every? (λ x. eqb x 0) (drop at (now (s .entry))) ⌝ }
-{
-    let mut i = at;
-    while i < s.len() {
-        if s[i] != 0 {
-            return false;
-        }
-        i += 1;
-    }
-    true
-}
-
 // The record is whole, counts at most 20 arguments, and holds 00 behind them.
 fn is_filled(bytes: &[u8]) -> bool
     ensures { λ r. ⌜ r ≡ filled (now (bytes .entry)) ⌝ }
@@ -53,7 +36,7 @@ fn is_filled(bytes: &[u8]) -> bool
     if 20 < n {
         return false;
     }
-    blank_from(bytes, n as usize + 3)
+    blanks::blank_from(bytes, n as usize + 3)
 }
 
 // What is asked for, only where the test holds.
