@@ -5,18 +5,19 @@ use asks::first;
 use lines::Refusal;
 use lines::write_line;
 use paper::Answer;
+ghost use mathlib.Core.Path.{_≡_};
 ghost use mathlib.Core.List.{[]};
-ghost use Prim.Native.Nat.{_≤_};
+ghost use Prim.Native.Nat.{ℕ, _≤_};
 ghost use lib.ListN.{length, take};
 ghost use Rattle.lists.specs.Wrote.{Wrote};
-ghost use Rattle.rules.specs.Floor.{lineOf};
+ghost use Rattle.rules.specs.Floor.{decimal, lineOf};
 ghost use Rattle.lines.specs.Texts.{refusalText};
 ghost use Rattle.answers.specs.Shown.{answerLine, shownGift, lineBy};
 
 // A line that shows nothing but the refusal.
-fn write_plain(buf: &mut [u8], number: u64, letter: u8, refusal: Refusal) -> usize
-    requires { ⌜ 540 ≤ length (now buf) ⌝ }
-    ensures { λ r. ⌜ Wrote (now (buf .entry)) 0 (lineOf number letter (refusalText refusal) []) (now (buf .exit)) r ⌝ }
+fn write_plain(buf: &mut [u8], number: &[u8], letter: u8, refusal: Refusal) -> usize
+    requires { ⌜ (length (now number) ≤ 20) × (540 ≤ length (now buf)) ⌝ }
+    ensures { λ r. ⌜ ((k : ℕ) → now (number .entry) ≡ decimal k → Wrote (now (buf .entry)) 0 (lineOf k letter (refusalText refusal) []) (now (buf .exit)) r) ⌝ }
 {
     let none = [0];
     write_line(buf, number, letter, refusal, &none[..0])
@@ -25,14 +26,14 @@ fn write_plain(buf: &mut [u8], number: u64, letter: u8, refusal: Refusal) -> usi
 // The line of a call that gives a number; a system command stands at the front of out.
 fn write_gift(
     buf: &mut [u8],
-    number: u64,
+    number: &[u8],
     letter: u8,
     gift: Gift,
     answer: Answer,
     out: &[u8],
 ) -> usize
-    requires { ⌜ 540 ≤ length (now buf) ⌝ }
-    ensures { λ r. ⌜ Wrote (now (buf .entry)) 0 (answerLine number letter answer (shownGift gift answer (now (out .entry)))) (now (buf .exit)) r ⌝ }
+    requires { ⌜ (length (now number) ≤ 20) × (540 ≤ length (now buf)) ⌝ }
+    ensures { λ r. ⌜ ((k : ℕ) → now (number .entry) ≡ decimal k → Wrote (now (buf .entry)) 0 (answerLine k letter answer (shownGift gift answer (now (out .entry)))) (now (buf .exit)) r) ⌝ }
 {
     let refusal = answer.refusal;
     if refusal != 0 {
@@ -50,9 +51,9 @@ fn write_gift(
 }
 
 // The line of an arrival: those called, one byte each.
-fn write_called(buf: &mut [u8], number: u64, letter: u8, answer: Answer) -> usize
-    requires { ⌜ 540 ≤ length (now buf) ⌝ }
-    ensures { λ r. ⌜ Wrote (now (buf .entry)) 0 (answerLine number letter answer (take (answer .count) (answer .called))) (now (buf .exit)) r ⌝ }
+fn write_called(buf: &mut [u8], number: &[u8], letter: u8, answer: Answer) -> usize
+    requires { ⌜ (length (now number) ≤ 20) × (540 ≤ length (now buf)) ⌝ }
+    ensures { λ r. ⌜ ((k : ℕ) → now (number .entry) ≡ decimal k → Wrote (now (buf .entry)) 0 (answerLine k letter answer (take (answer .count) (answer .called))) (now (buf .exit)) r) ⌝ }
 {
     let refusal = answer.refusal;
     if refusal != 0 {
@@ -66,14 +67,14 @@ fn write_called(buf: &mut [u8], number: u64, letter: u8, answer: Answer) -> usiz
 // The line of what was asked for and answered, at the front of the buffer; how many bytes it has.
 pub fn write_answer(
     buf: &mut [u8],
-    number: u64,
+    number: &[u8],
     letter: u8,
     ask: Ask,
     answer: Answer,
     out: &[u8],
 ) -> usize
-    requires { ⌜ 540 ≤ length (now buf) ⌝ }
-    ensures { λ r. ⌜ Wrote (now (buf .entry)) 0 (lineBy number letter ask answer (now (out .entry))) (now (buf .exit)) r ⌝ }
+    requires { ⌜ (length (now number) ≤ 20) × (540 ≤ length (now buf)) ⌝ }
+    ensures { λ r. ⌜ ((k : ℕ) → now (number .entry) ≡ decimal k → Wrote (now (buf .entry)) 0 (lineBy k letter ask answer (now (out .entry))) (now (buf .exit)) r) ⌝ }
 {
     let refusal = Refusal::Number(answer.refusal);
     match ask {

@@ -1,2 +1,3 @@
 -- The laws of lines.
 pub mod LineLaws
+pub mod Counting

@@ -30,12 +30,12 @@ fuel (suc f) (suc g) n h k = go (n <? 10) refl (fuel f g (n / 10))
     go false e i = let m = ltb-false n 10 e in ap (λ (s : List ℕ). s ++ digit (n % 10) ∷ []) (i (omega arith) (omega arith))
 
 -- a number of one digit, and of more
-decimal-one : (n : ℕ) → n < 10 → digit (n % 10) ∷ [] ≡ decimal n
+pub decimal-one : (n : ℕ) → n < 10 → digit (n % 10) ∷ [] ≡ decimal n
 unfolding decimal decimalBy
 decimal-one zero h = refl
 decimal-one (suc k) h = let e : suc k % 10 ≡ suc k = omega arith in rw (lt-ltb (suc k) 10 h, e) refl
 
-decimal-more : (n : ℕ) → 10 ≤ n → decimal (n / 10) ++ digit (n % 10) ∷ [] ≡ decimal n
+pub decimal-more : (n : ℕ) → 10 ≤ n → decimal (n / 10) ++ digit (n % 10) ∷ [] ≡ decimal n
 unfolding decimal decimalBy
 decimal-more zero h = absurd (omega arith)
 decimal-more (suc k) h = rw (le-ltb (suc k) 10 h) (ap (λ (s : List ℕ). s ++ digit (suc k % 10) ∷ []) (fuel (suc k / 10) k (suc k / 10) (omega arith) (omega arith)))
@@ -70,6 +70,10 @@ shorter n h = sym (ap length (decimal-more n h)) ∙ length-append (decimal (n /
 
 pub some-digit : (n : ℕ) → n < 10 → length (decimal n) ≡ 1
 some-digit n h = sym (ap length (decimal-one n h))
+
+-- the one digit was written
+pub wrote-digit : {b c : List ℕ} {at n x k : ℕ} → x ≡ digit n → n < 10 → Wrote b at (x ∷ []) c k → Wrote b at (decimal n) c k
+wrote-digit {n = n} e h w = let m : n ≡ n % 10 = omega arith in wrote-as (rw e (ap (λ j. digit j ∷ []) m ∙ decimal-one n h)) w
 
 -- the last digit was written, alone or behind the others
 module _ {b : List ℕ} {at n x : ℕ} (last : x ≡ digit (n % 10)) where

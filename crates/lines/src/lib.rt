@@ -2,14 +2,14 @@
 // What a line holds stands in `rules`, specs/Floor.antt.
 use writing::put;
 ghost use mathlib.Core.Path.{_≡_};
-ghost use Prim.Native.Nat.{_+_, _*_, _<_, _≤_};
+ghost use Prim.Native.Nat.{ℕ, _+_, _*_, _^_, _<_, _≤_};
 ghost use lib.ListN.{length};
 ghost use Rattle.lists.specs.Tests.{if_then_else_};
 ghost use Rattle.lists.specs.Lists.{in?};
 ghost use Rattle.lists.specs.Wrote.{Wrote};
 ghost use Rattle.rules.specs.Floor.{letters, decimal, hex, lineOf};
 ghost use Rattle.rules.specs.Floor.{digit as characterOf};
-ghost use Rattle.lines.specs.Texts.{refusalText, answerText};
+ghost use Rattle.lines.specs.Texts.{Spells, refusalText, answerText};
 
 // What a line says of the refusal: its number (0: none), or that no call was made.
 pub enum Refusal {
@@ -26,7 +26,7 @@ fn digit(n: u8) -> u8
 }
 
 // A number in decimal from index at on; the index behind it.
-fn put_decimal(buf: &mut [u8], at: usize, n: u64) -> usize
+pub fn put_decimal(buf: &mut [u8], at: usize, n: u64) -> usize
     requires { ⌜ at + length (decimal n) ≤ length (now buf) ⌝ }
     ensures { λ r. ⌜ Wrote (now (buf .entry)) at (decimal n) (now (buf .exit)) r ⌝ }
 {
@@ -36,6 +36,19 @@ fn put_decimal(buf: &mut [u8], at: usize, n: u64) -> usize
     }
     let next = put_decimal(buf, at, n / 10);
     put(buf, next, &last)
+}
+
+// The number behind the one that the buffer spells at its front, spelled there; how many digits it has.
+pub fn count_on(digits: &mut [u8], n: usize, number: u64) -> usize
+    requires { ⌜ Spells number (now digits) n × (20 ≤ length (now digits)) × (number + 1 < 2 ^ 64) ⌝ }
+    ensures { λ r. ⌜ Spells (number + 1) (now (digits .exit)) r ⌝ }
+{
+    let last = digits[n - 1];
+    if last < b'9' {
+        digits[n - 1] = last + 1;
+        return n;
+    }
+    put_decimal(digits, 0, number + 1)
 }
 
 // Bytes in upper hex from index at on; the index behind them.
@@ -76,13 +89,25 @@ fn shown_letter(letter: u8) -> u8
     if is_in(&known, letter) { letter } else { b'?' }
 }
 
+// A small number in decimal from index at on, most of which have one digit; the index behind it.
+fn put_number(buf: &mut [u8], at: usize, n: u8) -> usize
+    requires { ⌜ at + 3 ≤ length (now buf) ⌝ }
+    ensures { λ r. ⌜ Wrote (now (buf .entry)) at (decimal n) (now (buf .exit)) r × (r ≤ at + 3) ⌝ }
+{
+    if n < 10 {
+        let one = [digit(n)];
+        return put(buf, at, &one);
+    }
+    put_decimal(buf, at, n as u64)
+}
+
 // The refusal's number in decimal, or - where no call was made.
 fn put_refusal(buf: &mut [u8], at: usize, refusal: Refusal) -> usize
     requires { ⌜ at + 3 ≤ length (now buf) ⌝ }
     ensures { λ r. ⌜ Wrote (now (buf .entry)) at (refusalText refusal) (now (buf .exit)) r × (r ≤ at + 3) ⌝ }
 {
     match refusal {
-        Refusal::Number(n) => put_decimal(buf, at, n as u64),
+        Refusal::Number(n) => put_number(buf, at, n),
         Refusal::NoCall => {
             let dash = [b'-'];
             put(buf, at, &dash)
@@ -102,12 +127,18 @@ fn put_answer(buf: &mut [u8], at: usize, answer: &[u8]) -> usize
     put_hex(buf, at, answer)
 }
 
-// The line of a record at the front of the buffer; how many bytes it has.
-pub fn write_line(buf: &mut [u8], number: u64, letter: u8, refusal: Refusal, answer: &[u8]) -> usize
-    requires { ⌜ (length (now answer) ≤ 256) × (540 ≤ length (now buf)) ⌝ }
-    ensures { λ r. ⌜ Wrote (now (buf .entry)) 0 (lineOf number letter (refusalText refusal) (now (answer .entry))) (now (buf .exit)) r ⌝ }
+// The line of a record, whose number is spelled, at the front of the buffer; how many bytes it has.
+pub fn write_line(
+    buf: &mut [u8],
+    number: &[u8],
+    letter: u8,
+    refusal: Refusal,
+    answer: &[u8],
+) -> usize
+    requires { ⌜ (length (now number) ≤ 20) × (length (now answer) ≤ 256) × (540 ≤ length (now buf)) ⌝ }
+    ensures { λ r. ⌜ ((k : ℕ) → now (number .entry) ≡ decimal k → Wrote (now (buf .entry)) 0 (lineOf k letter (refusalText refusal) (now (answer .entry))) (now (buf .exit)) r) ⌝ }
 {
-    let numbered = put_decimal(buf, 0, number);
+    let numbered = put(buf, 0, number);
     let middle = [b' ', shown_letter(letter), b' '];
     let lettered = put(buf, numbered, &middle);
     let judged = put_refusal(buf, lettered, refusal);

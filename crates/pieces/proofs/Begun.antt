@@ -16,10 +16,9 @@ use Rattle.rules.specs.Floor.{stepLine}
 use Rattle.card.specs.declared.Card.{Card}
 use Rattle.card.specs.View.{view, stored, Left}
 use Rattle.card.proofs.Left.{left-form}
-use Rattle.records.specs.declared.Obeyed.{Obeyed}
-use Rattle.records.specs.Obeys.{Obeys}
 use Rattle.pieces.specs.Pieces.{recordsIn, linesOf, cardAfter, ObeysAll}
 use Rattle.lists.proofs.WrittenParts.{wrote-within, wrote-part}
+use Rattle.pieces.proofs.ObeyLaws.{Obeys}
 use Rattle.pieces.proofs.Reached.{reached-by-card, reached-left, reached-seen, reached-again}
 use Rattle.pieces.proofs.PieceLaws.{lines-none, card-none, lines-first, card-first}
 
@@ -51,18 +50,18 @@ record-at s i to h e =
 
 module _ {k : ℕ} {m : Model} {s b : List ℕ} (room : 540 * recordsIn s ≤ length b) {i : ℕ} {card : Card} {next at : ℕ} {c : List ℕ} where
   pub begun-more
-      : (to : ℕ) {d : List ℕ} {r : Obeyed} → 24 * i < length s → to ≡ min (24 * i + 24) (length s) → Begun k m s b i card next at c
-      → Obeys (stepLine next (view card) (take (to - 24 * i) (drop (24 * i) s))) (take (at + 540 - at) (drop at c)) d r
-      → Begun k m s b (i + 1) (r .card) (next + 1) (at + r .length) (putMid at (at + 540 - at) c d)
-  begun-more to {d} {r} h e g obeys =
+      : (to : ℕ) {d : List ℕ} {after : Card} {n : ℕ} → 24 * i < length s → to ≡ min (24 * i + 24) (length s) → Begun k m s b i card next at c
+      → Obeys (stepLine next (view card) (take (to - 24 * i) (drop (24 * i) s))) (take (at + 540 - at) (drop at c)) d after n
+      → Begun k m s b (i + 1) after (next + 1) (at + n) (putMid at (at + 540 - at) c d)
+  begun-more to {d} {after} {n} h e g obeys =
       let rest = drop (24 * i) s in
       let o = stepLine next (view card) (take 24 rest) in
-      let w : Obeys o (take (at + 540 - at) (drop at c)) d r = rw (record-at s i to h e) at obeys in
+      let w : Obeys o (take (at + 540 - at) (drop at c)) d after n = rw (record-at s i to h e) at obeys in
       let some : 0 < length rest = omega (arith, length-drop (24 * i) s) in
       let reached = reached-again next (take 24 rest) (reached-by-card card (g .left)) in
-      let seen : view (r .card) ≡ o .card = ap view (w .same) ∙ reached-seen reached in
-      let n : 24 * i + 24 ≡ 24 * (i + 1) = omega arith in
-      let on : drop (24 * (i + 1)) s ≡ drop 24 rest = sym (drop-drop 24 (24 * i) s ∙ ap (λ n. drop n s) n) in
+      let seen : view after ≡ o .card = ap view (w .same) ∙ reached-seen reached in
+      let j : 24 * i + 24 ≡ 24 * (i + 1) = omega arith in
+      let on : drop (24 * (i + 1)) s ≡ drop 24 rest = sym (drop-drop 24 (24 * i) s ∙ ap (λ n. drop n s) j) in
       record {
         within = omega arith;
         counted = omega (arith, g .counted);

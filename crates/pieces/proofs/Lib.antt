@@ -1,4 +1,5 @@
 -- The laws of pieces, and the promise of the floor program.
+pub mod ObeyLaws
 pub mod Reached
 pub mod PieceLaws
 pub mod Begun

@@ -1,6 +1,12 @@
 // The records of a piece of input obeyed, and their lines, one behind the other.
+use answers::write_answer;
+use asks::byte_at;
 use card::Card;
-use records::obey;
+use lines::count_on;
+use lines::put_decimal;
+use orders::arguments;
+use orders::read;
+use port::perform;
 ghost use mathlib.Core.Path.{_≡_};
 ghost use Prim.Native.Nat.{_+_, _*_, _^_, _<_, _≤_, min};
 ghost use lib.ListN.{length};
@@ -28,6 +34,9 @@ pub fn obey_all(card: Card, number: u64, input: &[u8], out: &mut [u8]) -> Run
     ensures { λ r. ⌜ ObeysAll number (view card) (now (input .entry)) (now (out .entry)) (now (out .exit)) r ⌝ }
 {
     let len = input.len();
+    let mut command = [0; 256];
+    let mut digits = [0; 20];
+    let mut count = put_decimal(&mut digits, 0, number);
     let mut left = card;
     let mut next = number;
     let mut at = 0;
@@ -35,10 +44,23 @@ pub fn obey_all(card: Card, number: u64, input: &[u8], out: &mut [u8]) -> Run
     while 24 * i < len {
         let from = 24 * i;
         let to = end_of(from, len);
+        let bytes = &input[from..to];
+        let letter = byte_at(bytes, 0);
+        let applet = byte_at(bytes, 1);
+        let ask = read(bytes);
+        let posted = perform(left, ask, applet, arguments(bytes), &mut command);
+        left = posted.card;
+        let answer = posted.answer;
         let end = at + 540;
-        let obeyed = obey(left, next, &input[from..to], &mut out[at..end]);
-        left = obeyed.card;
-        at += obeyed.length;
+        at += write_answer(
+            &mut out[at..end],
+            &digits[..count],
+            letter,
+            ask,
+            answer,
+            &command,
+        );
+        count = count_on(&mut digits, count, next);
         next += 1;
         i += 1;
     }

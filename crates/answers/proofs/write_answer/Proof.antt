@@ -43,55 +43,55 @@ same-length c = search needs
 
 returns : tie.Need-returns
 unfolding lineBy refusalText
-returns c =
+returns c k e =
     let p = c .before .before in
-    let e = p .before .before in
-    let s = e .before .before .before .before in
-    wrote-of (λ (a : Ask). lineBy (s .args .number) (s .args .letter) a (s .args .answer) (s .args .out .now)) (e .enum-told .given .1) (p .write-plain .ensures)
+    let m = p .before .before in
+    let s = m .before .before .before .before .before in
+    wrote-of (λ (a : Ask). lineBy k (s .args .letter) a (s .args .answer) (s .args .out .now)) (m .enum-told .given .1) (p .write-plain .ensures k e)
 
 same-length-2 : tie.Need-same-length-2
 same-length-2 c = search needs
 
 returns-2 : tie.Need-returns-2
 unfolding lineBy
-returns-2 c =
+returns-2 c k e =
     let p = c .before .before in
-    let e = p .before .before .before in
-    let s = e .before .before .before .before in
-    wrote-of (λ (a : Ask). lineBy (s .args .number) (s .args .letter) a (s .args .answer) (s .args .out .now)) (e .ask .given .1) (p .write-gift .ensures)
+    let m = p .before .before .before in
+    let s = m .before .before .before .before .before in
+    wrote-of (λ (a : Ask). lineBy k (s .args .letter) a (s .args .answer) (s .args .out .now)) (m .ask .given .1) (p .write-gift .ensures k e)
 
 same-length-3 : tie.Need-same-length-3
 same-length-3 c = search needs
 
 returns-3 : tie.Need-returns-3
 unfolding lineBy refusalText
-returns-3 c =
+returns-3 c k e =
     let p = c .before .before in
-    let e = p .before .before in
-    let s = e .before .before .before .before in
-    wrote-of (λ (a : Ask). lineBy (s .args .number) (s .args .letter) a (s .args .answer) (s .args .out .now)) (e .enum-told2 .given .1) (p .write-plain2 .ensures)
+    let m = p .before .before in
+    let s = m .before .before .before .before .before in
+    wrote-of (λ (a : Ask). lineBy k (s .args .letter) a (s .args .answer) (s .args .out .now)) (m .enum-told2 .given .1) (p .write-plain2 .ensures k e)
 
 same-length-4 : tie.Need-same-length-4
 same-length-4 c = search needs
 
 returns-4 : tie.Need-returns-4
 unfolding lineBy
-returns-4 c =
+returns-4 c k e =
     let p = c .before .before in
-    let e = p .before .before in
-    let s = e .before .before .before .before in
-    wrote-of (λ (a : Ask). lineBy (s .args .number) (s .args .letter) a (s .args .answer) (s .args .out .now)) (e .enum-told3 .given .1) (p .write-called .ensures)
+    let m = p .before .before in
+    let s = m .before .before .before .before .before in
+    wrote-of (λ (a : Ask). lineBy k (s .args .letter) a (s .args .answer) (s .args .out .now)) (m .enum-told3 .given .1) (p .write-called .ensures k e)
 
 same-length-5 : tie.Need-same-length-5
 same-length-5 c = search needs
 
 returns-5 : tie.Need-returns-5
 unfolding lineBy refusalText
-returns-5 c =
+returns-5 c k e =
     let p = c .before .before in
-    let e = p .before .before in
-    let s = e .before .before .before .before in
-    wrote-of (λ (a : Ask). lineBy (s .args .number) (s .args .letter) a (s .args .answer) (s .args .out .now)) (e .enum-told4 .given .1) (p .write-plain3 .ensures)
+    let m = p .before .before in
+    let s = m .before .before .before .before .before in
+    wrote-of (λ (a : Ask). lineBy k (s .args .letter) a (s .args .answer) (s .args .out .now)) (m .enum-told4 .given .1) (p .write-plain3 .ensures k e)
 
 pub write-answer-spec : {M : Type 1} → statement M
 write-answer-spec =

@@ -14,11 +14,11 @@ same-length c = search needs
 
 returns : tie.Need-returns
 unfolding refusalText
-returns c =
+returns c k e =
     let p = c .before .before in
     let t = p .before .before in
-    let s = t .before .before in
-    refused-line _ _ (s .args .answer) _ (t .if1 .taken) (p .write-plain .ensures)
+    let s = t .before .before .before in
+    refused-line _ _ (s .args .answer) _ (t .if1 .taken) (p .write-plain .ensures k e)
 
 cast-n : tie.Need-cast-n
 cast-n c = search needs
@@ -37,11 +37,11 @@ same-length-2 c = search needs
 
 returns-2 : tie.Need-returns-2
 unfolding refusalText
-returns-2 c =
+returns-2 c k e =
     let p = c .before .before in
     let i = p .before .before .before .before .before .before in
-    let s = i .before .before in
-    accepted-line _ _ (s .args .answer) _ (i .if1 .left) (p .before .first .ensures) (p .write-line .ensures)
+    let s = i .before .before .before in
+    accepted-line _ _ (s .args .answer) _ (i .if1 .left) (p .before .first .ensures) (p .write-line .ensures k e)
 
 pub write-called-spec : {M : Type 1} → statement M
 write-called-spec =

@@ -18,11 +18,11 @@ same-length c = search needs
 
 returns : tie.Need-returns
 unfolding refusalText
-returns c =
+returns c k e =
     let p = c .before .before in
     let t = p .before .before in
-    let s = t .before .before .before in
-    refused-line _ _ (s .args .answer) _ (t .if1 .taken) (p .write-plain .ensures)
+    let s = t .before .before .before .before in
+    refused-line _ _ (s .args .answer) _ (t .if1 .taken) (p .write-plain .ensures k e)
 
 enum-told : tie.Need-enum-told
 enum-told c = search needs
@@ -59,36 +59,36 @@ same-length-2 c = search needs
 
 returns-2 : tie.Need-returns-2
 unfolding refusalText shownGift
-returns-2 c =
+returns-2 c k e =
     let p = c .before .before in
-    let e = p .before .before .before in
-    let i = e .before .before in
-    let s = i .before .before .before in
-    wrote-of (λ (g : Gift). answerLine (s .args .number) (s .args .letter) (s .args .answer) (shownGift g (s .args .answer) (s .args .out .now))) (e .enum-told .given .1) (accepted-line _ _ (s .args .answer) _ (i .if1 .left) refl (p .write-line .ensures))
+    let m = p .before .before .before in
+    let i = m .before .before in
+    let s = i .before .before .before .before in
+    wrote-of (λ (g : Gift). answerLine k (s .args .letter) (s .args .answer) (shownGift g (s .args .answer) (s .args .out .now))) (m .enum-told .given .1) (accepted-line _ _ (s .args .answer) _ (i .if1 .left) refl (p .write-line .ensures k e))
 
 same-length-3 : tie.Need-same-length-3
 same-length-3 c = search needs
 
 returns-3 : tie.Need-returns-3
 unfolding refusalText shownGift
-returns-3 c =
+returns-3 c k e =
     let p = c .before .before in
-    let e = p .before .before .before in
-    let i = e .before .before in
-    let s = i .before .before .before in
-    wrote-of (λ (g : Gift). answerLine (s .args .number) (s .args .letter) (s .args .answer) (shownGift g (s .args .answer) (s .args .out .now))) (e .enum-told2 .given .1) (accepted-line _ _ (s .args .answer) _ (i .if1 .left) refl (p .write-line2 .ensures))
+    let m = p .before .before .before in
+    let i = m .before .before in
+    let s = i .before .before .before .before in
+    wrote-of (λ (g : Gift). answerLine k (s .args .letter) (s .args .answer) (shownGift g (s .args .answer) (s .args .out .now))) (m .enum-told2 .given .1) (accepted-line _ _ (s .args .answer) _ (i .if1 .left) refl (p .write-line2 .ensures k e))
 
 same-length-4 : tie.Need-same-length-4
 same-length-4 c = search needs
 
 returns-4 : tie.Need-returns-4
 unfolding refusalText shownGift
-returns-4 c =
+returns-4 c k e =
     let p = c .before .before in
-    let e = p .before .before .before .before in
-    let i = e .before .before in
-    let s = i .before .before .before in
-    wrote-of (λ (g : Gift). answerLine (s .args .number) (s .args .letter) (s .args .answer) (shownGift g (s .args .answer) (s .args .out .now))) (e .enum-told3 .given .1) (accepted-line _ _ (s .args .answer) _ (i .if1 .left) (p .before .first .ensures) (p .write-line3 .ensures))
+    let m = p .before .before .before .before in
+    let i = m .before .before in
+    let s = i .before .before .before .before in
+    wrote-of (λ (g : Gift). answerLine k (s .args .letter) (s .args .answer) (shownGift g (s .args .answer) (s .args .out .now))) (m .enum-told3 .given .1) (accepted-line _ _ (s .args .answer) _ (i .if1 .left) (p .before .first .ensures) (p .write-line3 .ensures k e))
 
 pub write-gift-spec : {M : Type 1} → statement M
 write-gift-spec =

@@ -1,24 +1,18 @@
--- `lines::put_refusal` meets its contract: a number below 256 has at most 3 digits.
+-- `lines::put_refusal` meets its contract.
 -- Assumes nothing.
 use native.Mathlib.Omega.{arith}
 use mathlib.Core.Path.{sym, ap}
 use borrow.Author.Needs.{needs}
 use Rattle.lists.proofs.Writing.{wrote-as}
 use Rattle.lines.specs.Texts.{refusalText}
-use Rattle.lines.proofs.LineLaws.{decimal-3}
 use Rattle.lines.proofs.put_refusal.Statement.{statement}
 use Rattle.lines.proofs.put_refusal.Tie as tie
 
 enum-known-refusal : tie.Need-enum-known-refusal
 enum-known-refusal c = search needs
 
-cast-put-decimal : tie.Need-cast-put-decimal
-cast-put-decimal c = search needs
-
-put-decimal-requires : tie.Need-put-decimal-requires
-put-decimal-requires c κs =
-    let k = c .before in
-    omega (arith, decimal-3 (k .before .refusal .given .0 .0) (omega (arith, k .known-told .given)))
+put-number-requires : tie.Need-put-number-requires
+put-number-requires c κs = search needs
 
 enum-told : tie.Need-enum-told
 enum-told c = search needs
@@ -37,7 +31,7 @@ unfolding refusalText
 returns c =
     let p = c .before .before in
     let k = p .before .before in
-    (wrote-as (sym (ap refusalText (k .before .refusal .given .1))) (p .put-decimal .ensures), omega (arith, decimal-3 (k .before .refusal .given .0 .0) (omega (arith, k .known-told .given))))
+    (wrote-as (sym (ap refusalText (k .before .refusal .given .1))) (p .put-number .ensures .0), p .put-number .ensures .1)
 
 same-length-2 : tie.Need-same-length-2
 same-length-2 c = search needs
@@ -53,8 +47,7 @@ put-refusal-spec =
     tie.close
     (tie.spec
     enum-known-refusal
-    cast-put-decimal
-    put-decimal-requires
+    put-number-requires
     enum-told
     slice-aggregate-put
     put-requires

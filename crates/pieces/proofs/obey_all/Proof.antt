@@ -1,22 +1,36 @@
--- `pieces::obey_all` meets its contract: with i records obeyed, their lines stand at the front, and the rest of the piece gives the rest.
--- Assumes nothing.
+-- `pieces::obey_all` meets its contract: with i records obeyed, their lines stand at the front, the rest of the piece gives the rest, and the
+-- next number is spelled. Assumes nothing.
 use Prim.Native.Nat.{_-_}
 use native.Mathlib.Omega.{arith}
+use mathlib.Core.Path.{_≡_, sym}
+use lib.ListN.{length, length-take}
+use lib.Seq.{length-take-le}
 use borrow.Author.Needs.{needs}
 use Rattle.card.specs.View.{view}
+use Rattle.lines.specs.Texts.{Spells}
+use Rattle.lines.proofs.LineLaws.{decimal-20}
+use Rattle.lines.proofs.Counting.{spells-few, wrote-spells}
 use Rattle.pieces.specs.Pieces.{recordsIn}
+use Rattle.pieces.proofs.ObeyLaws.{at-record}
 use Rattle.pieces.proofs.Begun.{Begun, line-short, begun-none, begun-more, begun-all}
 use Rattle.pieces.proofs.obey_all.Statement.{statement}
 use Rattle.pieces.proofs.obey_all.Tie as tie
 
 abbrev Inv-loop : tie.InvT-loop
-Inv-loop number input out₀ len left₀ next₀ at₀ i₀ out left next at i = Begun number (view left₀) input out₀ i left next at out
+Inv-loop number input out₀ len command₀ digits₀ count₀ left₀ next₀ at₀ i₀ out command digits count left next at i =
+    Begun number (view left₀) input out₀ i left next at out × Spells next digits count × (length digits ≡ 20) × (length command ≡ 256)
 
 abbrev μ-loop : tie.MeasureT-loop
-μ-loop number input out₀ len left₀ next₀ at₀ i₀ out left next at i = recordsIn input - i
+μ-loop number input out₀ len command₀ digits₀ count₀ left₀ next₀ at₀ i₀ out command digits count left next at i = recordsIn input - i
+
+slice-aggregate-put-decimal : tie.Need-slice-aggregate-put-decimal Inv-loop μ-loop
+slice-aggregate-put-decimal c = search needs
+
+put-decimal-requires : tie.Need-put-decimal-requires Inv-loop μ-loop
+put-decimal-requires c κs = let s = c .before .before .before in omega (arith, decimal-20 (s .args .number) (s .fits .number .fits))
 
 loop-holds : tie.Need-loop-holds Inv-loop μ-loop
-loop-holds c = begun-none _ _ _ _ (c .before .before .pre .0)
+loop-holds c = (begun-none _ _ _ _ (c .before .before .before .before .before .pre .0), wrote-spells (c .before .put-decimal .ensures), search needs, search needs)
 
 mul-loop : tie.Need-mul-loop Inv-loop μ-loop
 mul-loop c = search needs
@@ -27,58 +41,138 @@ mul-from c = search needs
 end-of-requires : tie.Need-end-of-requires Inv-loop μ-loop
 end-of-requires c κs = search needs
 
+sub-bytes : tie.Need-sub-bytes Inv-loop μ-loop
+sub-bytes c = search needs
+
+part-bytes-start : tie.Need-part-bytes-start Inv-loop μ-loop
+part-bytes-start c = search needs
+
+part-bytes-end : tie.Need-part-bytes-end Inv-loop μ-loop
+part-bytes-end c = search needs
+
+byte-at-requires : tie.Need-byte-at-requires Inv-loop μ-loop
+byte-at-requires c κs = search needs
+
+byte-at-requires-2 : tie.Need-byte-at-requires-2 Inv-loop μ-loop
+byte-at-requires-2 c κs = search needs
+
+read-requires : tie.Need-read-requires Inv-loop μ-loop
+read-requires c κs = search needs
+
+arguments-requires : tie.Need-arguments-requires Inv-loop μ-loop
+arguments-requires c κs = search needs
+
+slice-aggregate-perform : tie.Need-slice-aggregate-perform Inv-loop μ-loop
+slice-aggregate-perform c = search needs
+
+perform-requires : tie.Need-perform-requires Inv-loop μ-loop
+perform-requires c κs = search needs
+
 add-end : tie.Need-add-end Inv-loop μ-loop
-add-end c = search needs
+add-end c =
+    let t = c .before .before .before .before .before .before .before .before .before .before .before in
+    let l = t .before in
+    let s = l .before .before .before .before .before .before in
+    omega (arith, t .loop-test .taken, l .loop .inv .0 .short, l .loop .inv .0 .wrote .long, s .pre, s .good)
 
-sub-obey : tie.Need-sub-obey Inv-loop μ-loop
-sub-obey c = search needs
+sub-write-answer : tie.Need-sub-write-answer Inv-loop μ-loop
+sub-write-answer c = search needs
 
-part-obey-start : tie.Need-part-obey-start Inv-loop μ-loop
-part-obey-start c = search needs
+part-write-answer-start : tie.Need-part-write-answer-start Inv-loop μ-loop
+part-write-answer-start c = search needs
 
-part-obey-end : tie.Need-part-obey-end Inv-loop μ-loop
-part-obey-end c = search needs
+part-write-answer-end : tie.Need-part-write-answer-end Inv-loop μ-loop
+part-write-answer-end c =
+    let t = c .before .before .before .before .before .before .before .before .before .before .before in
+    let l = t .before in
+    let s = l .before .before .before .before .before .before in
+    omega (arith, t .loop-test .taken, l .loop .inv .0 .short, l .loop .inv .0 .wrote .long, s .pre, s .good)
 
-sub-obey-2 : tie.Need-sub-obey-2 Inv-loop μ-loop
-sub-obey-2 c = search needs
+array-share-prefix-digits : tie.Need-array-share-prefix-digits Inv-loop μ-loop
+array-share-prefix-digits c =
+    let t = c .before .before .before .before .before .before .before .before .before .before .before .before in
+    let l = t .before in
+    let s = l .before .before .before .before .before .before in
+    omega (arith, spells-few (l .loop .inv .1) (omega (arith, t .loop-test .taken, l .loop .inv .0 .counted, s .pre)))
 
-part-obey-start-2 : tie.Need-part-obey-start-2 Inv-loop μ-loop
-part-obey-start-2 c = search needs
+slice-aggregate-write-answer : tie.Need-slice-aggregate-write-answer Inv-loop μ-loop
+slice-aggregate-write-answer c =
+    let t = c .before .before .before .before .before .before .before .before .before .before .before .before .before in
+    let l = t .before in
+    let s = l .before .before .before .before .before .before in
+    sym (length-take-le _ _ (omega (arith, l .loop .inv .2, spells-few (l .loop .inv .1) (omega (arith, t .loop-test .taken, l .loop .inv .0 .counted, s .pre)))))
 
-part-obey-end-2 : tie.Need-part-obey-end-2 Inv-loop μ-loop
-part-obey-end-2 c = search needs
+slice-aggregate-write-answer-2 : tie.Need-slice-aggregate-write-answer-2 Inv-loop μ-loop
+slice-aggregate-write-answer-2 c = search needs
 
-obey-requires : tie.Need-obey-requires Inv-loop μ-loop
-obey-requires c κs = search needs
+write-answer-requires : tie.Need-write-answer-requires Inv-loop μ-loop
+write-answer-requires c κs =
+    let t = c .before .before .before .before .before .before .before .before .before .before .before .before .before .before in
+    let l = t .before in
+    let s = l .before .before .before .before .before .before in
+    (omega (arith, length-take (l .loop .count) (l .loop .digits), spells-few (l .loop .inv .1) (omega (arith, t .loop-test .taken, l .loop .inv .0 .counted, s .pre))), omega (arith, t .loop-test .taken, l .loop .inv .0 .short, l .loop .inv .0 .wrote .long, s .pre, s .good))
 
 add-at : tie.Need-add-at Inv-loop μ-loop
 add-at c =
-    let p = c .before .before .before .before in
-    let t = p .before .before .before .before in
+    let w = c .before .before in
+    let t = w .before .before .before .before .before .before .before .before .before .before .before .before .before .before .before in
     let l = t .before in
-    let s = l .before .before .before in
-    omega (arith, line-short (l .loop .out) (l .loop .at) (p .obey .ensures .wrote), t .loop-test .taken, l .loop .inv, s .pre, s .good)
+    let s = l .before .before .before .before .before .before in
+    omega (arith, line-short (l .loop .out) (l .loop .at) (w .write-answer .ensures (l .loop .next) (l .loop .inv .1 .text)), t .loop-test .taken, l .loop .inv .0 .short, l .loop .inv .0 .wrote .long, s .pre, s .good)
+
+slice-aggregate-count-on : tie.Need-slice-aggregate-count-on Inv-loop μ-loop
+slice-aggregate-count-on c = sym (c .before .before .before .before .before .before .before .before .before .before .before .before .before .before .before .before .before .before .before .loop .inv .2)
+
+count-on-requires : tie.Need-count-on-requires Inv-loop μ-loop
+count-on-requires c κs =
+    let t = c .before .before .before .before .before .before .before .before .before .before .before .before .before .before .before .before .before .before in
+    let l = t .before in
+    let s = l .before .before .before .before .before .before in
+    (l .loop .inv .1, omega (arith, l .loop .inv .2), omega (arith, t .loop-test .taken, l .loop .inv .0 .counted, s .pre))
 
 add-next : tie.Need-add-next Inv-loop μ-loop
-add-next c = search needs
+add-next c =
+    let t = c .before .before .before .before .before .before .before .before .before .before .before .before .before .before .before .before .before .before .before .before in
+    let l = t .before in
+    let s = l .before .before .before .before .before .before in
+    omega (arith, t .loop-test .taken, l .loop .inv .0 .counted, s .pre)
 
 add-i : tie.Need-add-i Inv-loop μ-loop
-add-i c = search needs
+add-i c =
+    let t = c .before .before .before .before .before .before .before .before .before .before .before .before .before .before .before .before .before .before .before .before in
+    let l = t .before in
+    let s = l .before .before .before .before .before .before in
+    omega (arith, t .loop-test .taken, s .good)
 
 loop-less : tie.Need-loop-less Inv-loop μ-loop
-loop-less c = search needs
+loop-less c =
+    let t = c .before .before .before .before .before .before .before .before .before .before .before .before .before .before .before .before .before .before .before .before in
+    let l = t .before in
+    let s = l .before .before .before .before .before .before in
+    omega (arith, t .loop-test .taken)
 
 loop-again : tie.Need-loop-again Inv-loop μ-loop
 loop-again c =
-    let p = c .before .before .before .before in
-    let t = p .before .before .before .before in
-    begun-more (search needs) _ (t .loop-test .taken) (p .before .before .before .end-of .ensures) (t .before .loop .inv) (p .obey .ensures)
+    let n = c .before in
+    let w = n .before .before .before .before in
+    let p = w .before .before .before .before .before .before .before in
+    let a = p .before .before in
+    let r = a .before in
+    let y = r .before in
+    let x = y .before in
+    let e = x .before .before in
+    let t = e .before in
+    let l = t .before in
+    let s = l .before .before .before .before .before .before in
+    let line = w .write-answer .ensures (l .loop .next) (l .loop .inv .1 .text) in
+    let obeys = at-record _ _ _ _ _ _ _ (l .loop .command) (l .loop .inv .3) (x .byte-at .ensures) (y .byte-at2 .ensures) (a .arguments .ensures) (r .read .ensures) (p .perform .ensures) line in
+    (begun-more (s .pre .2) _ (t .loop-test .taken) (e .end-of .ensures) (l .loop .inv .0) obeys, n .count-on .ensures, search needs, omega (arith, l .loop .inv .3, p .perform .kept))
 
 same-length : tie.Need-same-length Inv-loop μ-loop
 same-length c = search needs
 
 returns : tie.Need-returns Inv-loop μ-loop
-returns c = begun-all (c .loop-test .left) (c .before .loop .inv)
+returns c = begun-all (c .loop-test .left) (c .before .loop .inv .0)
 
 pub obey-all-spec : {M : Type 1} → statement M
 obey-all-spec =
@@ -86,19 +180,32 @@ obey-all-spec =
     (tie.spec
     Inv-loop
     μ-loop
+    slice-aggregate-put-decimal
+    put-decimal-requires
     loop-holds
     mul-loop
     mul-from
     end-of-requires
+    sub-bytes
+    part-bytes-start
+    part-bytes-end
+    byte-at-requires
+    byte-at-requires-2
+    read-requires
+    arguments-requires
+    slice-aggregate-perform
+    perform-requires
     add-end
-    sub-obey
-    part-obey-start
-    part-obey-end
-    sub-obey-2
-    part-obey-start-2
-    part-obey-end-2
-    obey-requires
+    sub-write-answer
+    part-write-answer-start
+    part-write-answer-end
+    array-share-prefix-digits
+    slice-aggregate-write-answer
+    slice-aggregate-write-answer-2
+    write-answer-requires
     add-at
+    slice-aggregate-count-on
+    count-on-requires
     add-next
     add-i
     loop-less

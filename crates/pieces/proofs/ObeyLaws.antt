@@ -1,12 +1,13 @@
 -- Laws of a record obeyed: from what it asks for, what the door posts and the line that is written, what the rules say of the record.
 -- Assumes nothing.
-use Prim.Native.Nat.{ℕ, _≤_}
+use Prim.Native.Nat.{ℕ, zero, suc}
 use Prim.Native.Char.{code}
 use mathlib.Core.Path.{_≡_, refl, sym, ap, _∙_}
 use mathlib.Core.Bool.{Bool, true, false, _&&_}
-use mathlib.Core.List.{List, []}
-use lib.ListN.{length, replicate}
-use Rattle.lists.specs.Tests.{if_then_else_, _==_, _≤?_}
+use mathlib.Core.List.{List, [], _∷_}
+use lib.ListN.{length, take, drop, replicate, length-replicate}
+use lib.Seq.{take-append-seam}
+use Rattle.lists.specs.Tests.{if_then_else_, _==_, _<?_, _≤?_}
 use Rattle.lists.specs.Wrote.{Wrote}
 use Rattle.lists.proofs.Decided.{clashing}
 use Rattle.lists.proofs.Ifs.{if-holds}
@@ -16,7 +17,11 @@ use Rattle.rules.specs.Bytes.{byte}
 use Rattle.rules.specs.Holds.{Model}
 use Rattle.rules.specs.Calls.{Outcome, Call, admin, event, entry, timer, arrival, settled, proactive, systemCommand}
 use Rattle.rules.specs.Calls.{askEvent, newEntry, changeEntry, enableEntry, disableEntry, allocate, release}
-use Rattle.rules.specs.Step.{step}
+use Rattle.rules.specs.Calls.{Answer as Answered}
+use Rattle.rules.specs.Desk.{dueCommand}
+use Rattle.rules.specs.Refusals.{line, lines, lowest, refusal}
+use Rattle.rules.specs.Step as Step
+use Rattle.rules.specs.Step.{step, outcome, changed, tablesAfter, deskAfter, written, front}
 use Rattle.rules.specs.Floor as floor
 use Rattle.rules.specs.Floor.{only-if, signed, decimal, lineOf, shownAnswer, obeyed, orderBy, orderOf, stepLine}
 use Rattle.asks.specs.declared.Deed.{Deed as DeedAsk}
@@ -26,7 +31,7 @@ use Rattle.asks.specs.declared.Arrival.{Arrival as ArrivalAsk}
 use Rattle.asks.specs.declared.Arrival.the-variants as arriving
 use Rattle.asks.specs.declared.Ask.{Ask}
 use Rattle.asks.specs.declared.Ask.the-variants.{Deed, Gift, AskEvent, Arrival, Unknown}
-use Rattle.asks.specs.Asks.{Asked, calls, turned, deedCall, giftCall, arrivalCall, callOf}
+use Rattle.asks.specs.Asks.{deedCall, giftCall, arrivalCall, callOf}
 use Rattle.paper.specs.declared.Answer.{Answer}
 use Rattle.paper.specs.Answers.{storedAnswer}
 use Rattle.port.specs.Posts.{lentAfter, posted, Posts}
@@ -34,8 +39,6 @@ use Rattle.orders.specs.Orders.{argumentsOf, orderFor, ordered}
 use Rattle.answers.specs.Shown.{shownGift, lineBy}
 use Rattle.card.specs.declared.Card.{Card}
 use Rattle.card.specs.View.{stored}
-use Rattle.records.specs.declared.Obeyed.{Obeyed}
-use Rattle.records.specs.Obeys.{Obeys}
 
 -- no letter asks for a change of an entry or for the release of a timer, whose lines would show a number
 unfoldable hasLetter : Call → Bool
@@ -113,9 +116,34 @@ if-none : (b : Bool) (s : List ℕ) → s ≡ [] → [] ≡ (if b then s else []
 if-none true s e = sym e
 if-none false s e = refl
 
-module _ (k letter a : ℕ) (m : Model) (l : List ℕ) where
+-- what a system command does does not depend on what stood in the buffer
+module _ (m : Model) (b c : List ℕ) where
+  refusal-same : length b ≡ length c → refusal m (systemCommand b) ≡ refusal m (systemCommand c)
+  unfolding refusal lines
+  refusal-same e = ap (λ n. lowest (line 16 (m .desk .outstanding) ∷ line 18 (n <? 256) ∷ [])) e
+
+  record Same (o p : Outcome) : Type 0 where
+    after : o .after ≡ p .after
+    answer : o .answer ≡ p .answer
+    shown : take (o .answer .number) (o .buffer) ≡ take (p .answer .number) (p .buffer)
+
+  outcome-same : (r : ℕ) → Same (outcome r m (systemCommand b)) (outcome r m (systemCommand c))
+  unfolding outcome changed tablesAfter deskAfter Step.answer written front
+  outcome-same zero =
+      let d = dueCommand (m .tables) (m .desk) in
+      record { after = refl; answer = refl; shown = take-append-seam d (drop (length d) b) ∙ sym (take-append-seam d (drop (length d) c)) }
+  outcome-same (suc r) = record { after = refl; answer = refl; shown = refl }
+
+  step-same : length b ≡ length c → Same (step m (systemCommand b)) (step m (systemCommand c))
+  unfolding step
+  step-same e = rw (refusal-same e) (outcome-same (refusal m (systemCommand c)))
+
+module _ (k letter a : ℕ) (m : Model) (l buffer : List ℕ) (wide : length buffer ≡ 256) where
   abbrev post : Ask → Outcome
-  post ask = posted m (callOf ask a l (replicate 256 0)) (replicate 256 0)
+  post ask = posted m (callOf ask a l buffer) buffer
+
+  same : Same m buffer (replicate 256 0) (step m (systemCommand buffer)) (step m (systemCommand (replicate 256 0)))
+  same = step-same m buffer (replicate 256 0) (wide ∙ sym (length-replicate {A = ℕ} 256 0))
 
   -- the line of what is posted is the rules' line of the order
   line-is : (ask : Ask) → orderly (ordered ask a l) ≡ true → lineBy k letter ask (storedAnswer (post ask .answer)) (post ask .buffer) ≡ floor.obey k letter m (ordered ask a l) .line
@@ -123,7 +151,11 @@ module _ (k letter a : ℕ) (m : Model) (l : List ℕ) where
   line-is (Deed x) h = let o = step m (deedCall x a l) in ap (lineOf k letter (decimal (o .answer .refusal))) (if-none (o .answer .refusal == 0) _ (deed-shown x a l o h))
   line-is (Gift gift.NewEntry) h = unfold giftCall shownGift shownAnswer in refl
   line-is (Gift gift.Allocate) h = unfold giftCall shownGift shownAnswer in refl
-  line-is (Gift gift.SystemCommand) h = unfold giftCall shownGift shownAnswer lentAfter in refl
+  line-is (Gift gift.SystemCommand) h =
+      let o = step m (systemCommand buffer) in
+      unfold giftCall shownGift shownAnswer lentAfter in
+      ap (λ (s : List ℕ). lineOf k letter (decimal (o .answer .refusal)) (if o .answer .refusal == 0 then s else [])) (same .shown)
+      ∙ ap (λ (x : Answered). lineOf k letter (decimal (x .refusal)) (if x .refusal == 0 then take (step m (systemCommand (replicate 256 0)) .answer .number) (step m (systemCommand (replicate 256 0)) .buffer) else [])) (same .answer)
   line-is AskEvent h =
       let o = step m (event (askEvent a (signed (byte l 0) (byte l 1)))) in
       unfold shownAnswer in ap (lineOf k letter (decimal (o .answer .refusal))) (if-none (o .answer .refusal == 0) [] refl)
@@ -133,25 +165,32 @@ module _ (k letter a : ℕ) (m : Model) (l : List ℕ) where
   line-is Unknown h = refl
 
   card-is : (ask : Ask) → post ask .after ≡ floor.obey k letter m (ordered ask a l) .card
-  unfolding posted ordered orderFor floor.obey obeyed
-  card-is ask = go (callOf ask a l (replicate 256 0))
-    where
-      go : (x : Asked) → posted m x (replicate 256 0) .after ≡ floor.obey k letter m (orderFor x) .card
-      go (calls c) = refl
-      go (turned n) = refl
+  unfolding posted callOf ordered orderFor giftCall floor.obey obeyed
+  card-is (Deed x) = refl
+  card-is (Gift gift.NewEntry) = refl
+  card-is (Gift gift.Allocate) = refl
+  card-is (Gift gift.SystemCommand) = same .after
+  card-is AskEvent = refl
+  card-is (Arrival x) = refl
+  card-is Unknown = refl
+
+-- what the rules say of a record: the card that holds the model it leaves, and its line at the front of b, which is c afterwards
+pub record Obeys (o : floor.Obeyed) (b c : List ℕ) (card : Card) (n : ℕ) : Type 0 where
+  pub same : card ≡ stored (o .card)
+  pub wrote : Wrote b 0 (o .line) c n
 
 -- THE RECORD ITSELF
 pub at-record
-    : (k letter a : ℕ) (m : Model) (s l : List ℕ) (ask : Ask) {card : Card} {answer : Answer} {out b d : List ℕ} {r : Obeyed}
-    → letter ≡ byte s 0 → a ≡ byte s 1 → l ≡ argumentsOf s → ordered ask (byte s 1) (argumentsOf s) ≡ orderOf s
-    → Posts (posted m (callOf ask a l (replicate 256 0)) (replicate 256 0)) out card answer
-    → r .card ≡ card → Wrote b 0 (lineBy k letter ask answer out) d (r .length) → Obeys (stepLine k m s) b d r
+    : (k letter a : ℕ) (m : Model) (s l : List ℕ) (ask : Ask) (buffer : List ℕ) {card : Card} {answer : Answer} {out b d : List ℕ} {n : ℕ}
+    → length buffer ≡ 256 → letter ≡ byte s 0 → a ≡ byte s 1 → l ≡ argumentsOf s → ordered ask (byte s 1) (argumentsOf s) ≡ orderOf s
+    → Posts (posted m (callOf ask a l buffer) buffer) out card answer
+    → Wrote b 0 (lineBy k letter ask answer out) d n → Obeys (stepLine k m s) b d card n
 unfolding stepLine
-at-record k letter a m s l ask {out = out} e ea el q p same w =
+at-record k letter a m s l ask buffer {out = out} wide e ea el q p w =
     let made : ordered ask a l ≡ orderOf s = rw (ea, el) q in
     let all : floor.obey k letter m (ordered ask a l) ≡ floor.obey k (byte s 0) m (orderOf s) = rw (made, e) refl in
     record {
-      same = same ∙ p .card-is ∙ ap stored (card-is k letter a m l ask) ∙ ap (λ (o : floor.Obeyed). stored (o .card)) all;
+      same = p .card-is ∙ ap stored (card-is k letter a m l buffer wide ask) ∙ ap (λ (o : floor.Obeyed). stored (o .card)) all;
       wrote =
-          wrote-as (ap (λ (x : Answer). lineBy k letter ask x out) (p .answer-is) ∙ ap (lineBy k letter ask (storedAnswer (post k letter a m l ask .answer))) (p .buffer-is) ∙ line-is k letter a m l ask (rw made (orderly-all s)) ∙ ap (λ (o : floor.Obeyed). o .line) all) w;
+          wrote-as (ap (λ (x : Answer). lineBy k letter ask x out) (p .answer-is) ∙ ap (lineBy k letter ask (storedAnswer (post k letter a m l buffer wide ask .answer))) (p .buffer-is) ∙ line-is k letter a m l buffer wide ask (rw made (orderly-all s)) ∙ ap (λ (o : floor.Obeyed). o .line) all) w;
     }

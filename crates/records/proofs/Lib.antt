@@ -1,2 +1,0 @@
--- The laws of records obeyed.
-pub mod ObeyLaws

@@ -1,2 +1,0 @@
--- What a record leaves.
-pub mod Obeys
