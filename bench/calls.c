@@ -30,6 +30,13 @@ static struct menu read;
 static bool yes;
 struct both spare;
 
+static uint8_t fresh_ours(struct both *b)
+{
+    struct toolkit_made made = toolkit_fresh(title, TITLE);
+    b->ours = made.card;
+    return made.refusal;
+}
+
 static uint8_t send_ours(struct both *b)
 {
     return toolkit_send(&b->ours, 8, command, sizeof command).refusal;
@@ -63,13 +70,13 @@ static void set_all(struct both *b, uint8_t applet)
 /* Eight applets with a timer and all events each, twelve rows of the longest text, a session; the menu and the events are due. */
 static void fill(struct both *b)
 {
-    toolkit_fresh_card(&b->ours, title, TITLE);
+    fresh_ours(b);
     card_fresh(&b->plain, title, TITLE);
     for (uint8_t applet = 1; applet <= APPLETS; applet++) {
         const struct toolkit_request *asked = applet <= 3 ? &request : &no_entries;
         struct terms terms;
         memcpy(&terms, asked, sizeof terms);
-        toolkit_install(&b->ours, applet, asked);
+        toolkit_install(&b->ours, applet, *asked);
         card_install(&b->plain, applet, &terms);
         toolkit_allocate_timer(&b->ours, applet);
         card_allocate(&b->plain, applet, &number);
@@ -106,7 +113,7 @@ static void one_row_short(struct both *b)
     struct terms terms;
     memcpy(&terms, &request, sizeof terms);
     without(b, 3);
-    toolkit_install(&b->ours, 3, &request);
+    toolkit_install(&b->ours, 3, request);
     card_install(&b->plain, 3, &terms);
     for (int row = 0; row < 3; row++) {
         toolkit_new_entry(&b->ours, 3, true, text, TEXT);
@@ -134,8 +141,8 @@ static void outstanding(struct both *b)
 
 #define CALLS(CALL)                                                                                                                     \
     CALL(copy_of_card, nothing, (spare.ours = b->ours, 0), (spare.plain = b->plain, 0))                                                 \
-    CALL(fresh, nothing, toolkit_fresh_card(&b->ours, title, TITLE), card_fresh(&b->plain, title, TITLE))                               \
-    CALL(install, without_3, toolkit_install(&b->ours, 3, &request).refusal, card_install(&b->plain, 3, (const void *)&request))        \
+    CALL(fresh, nothing, fresh_ours(b), card_fresh(&b->plain, title, TITLE))                                                            \
+    CALL(install, without_3, toolkit_install(&b->ours, 3, request).refusal, card_install(&b->plain, 3, (const void *)&request))         \
     CALL(delete, nothing, toolkit_delete(&b->ours, 2).refusal, card_delete(&b->plain, 2))                                               \
     CALL(lock, nothing, toolkit_lock(&b->ours, 3).refusal, card_lock(&b->plain, 3))                                                     \
     CALL(unlock, nothing, toolkit_unlock(&b->ours, 3).refusal, card_unlock(&b->plain, 3))                                               \
@@ -166,12 +173,12 @@ static void outstanding(struct both *b)
     CALL(command_events, menu_handed_out, toolkit_system_command(&b->ours, buffer, sizeof buffer).refusal,                              \
          card_system_command(&b->plain, buffer, sizeof buffer, &number))                                                                \
     CALL(response, outstanding, toolkit_response(&b->ours).refusal, card_response(&b->plain))                                           \
-    CALL(find_element, nothing, !toolkit_find_element(menu + 3, menu_length - 3u, 0x0F, 12).there,                                      \
+    CALL(find_element, nothing, !toolkit_find(menu + 3, menu_length - 3u, 0x0F, 12).there,                                              \
          !find_element(menu + 3, menu_length - 3u, 0x0F, 12, &part))                                                                    \
-    CALL(handler_content, nothing, toolkit_handler_content(selection, sizeof selection).len != 9,                                       \
+    CALL(handler_content, nothing, toolkit_content(selection, sizeof selection).len != 9,                                               \
          handler_content(selection, sizeof selection).length != 9)                                                                      \
-    CALL(menu_reader, nothing, toolkit_menu_reader(menu, menu_length).refusal, read_menu(menu, menu_length, &read))                     \
-    CALL(bank_both_calls, nothing, toolkit_allocate(&bank, 8, 8).refusal + toolkit_release(&bank, 8, 8).refusal,                        \
+    CALL(menu_reader, nothing, toolkit_read_menu(menu, menu_length).refusal, read_menu(menu, menu_length, &read))                       \
+    CALL(bank_both_calls, nothing, toolkit_bank_allocate(&bank, 8, 8).refusal + toolkit_bank_release(&bank, 8, 8).refusal,              \
          bank_allocate(plain_bank, 8, 8, &number) + bank_release(plain_bank, 8, 8, 8))
 
 #define DEFINE(name, before, here, there)                                                            \

@@ -1,6 +1,6 @@
 /* The toolkit runtime of a SIM, for C11 and C++17; link libtoolkit.a (`rt staticlib toolkit`), which needs memcpy, memmove and memset alone.
 
-   A card is 588 bytes of the caller's memory, with no pointer in it. Make it by toolkit_fresh_card, change it by the calls below only: they take
+   A card is 450 bytes of the caller's memory, with no pointer in it. Make it by toolkit_fresh, change it by the calls below only: they take
    for granted that a fresh card and calls have left it so. It may be read, copied and moved at will. The library keeps nothing
    between calls, allocates nothing and has no variables, so cards are independent of each other, on whatever threads.
 
@@ -58,9 +58,7 @@ enum toolkit_refusal {
     TOOLKIT_OUTSTANDING = 16,           /* a proactive command is outstanding */
     TOOLKIT_SYSTEM_TYPE = 17,           /* SET UP MENU 25, SET UP EVENT LIST 05, POLL INTERVAL 03, POLLING OFF 04 (hex) */
     TOOLKIT_BUFFER_TOO_SMALL = 18,      /* lent buffer under 256 bytes */
-    TOOLKIT_NONE_OUTSTANDING = 19,      /* no command outstanding */
-    TOOLKIT_UNKNOWN_CALL = 100,         /* toolkit_call only: a code that is none of enum toolkit_code */
-    TOOLKIT_NO_CALL = 101               /* toolkit_call only: bytes that the code does not take */
+    TOOLKIT_NONE_OUTSTANDING = 19       /* no command outstanding */
 };
 
 /* TS 102 241, clause 6.2. Menu selection, its help request and timer expiration come with rows and timers, and cannot be set. */
@@ -104,26 +102,26 @@ struct toolkit_request {
 };
 TOOLKIT_LAYOUT(struct toolkit_request, 12, 1);
 
-/* ---- The card: to be read at will, to be changed by the calls only. Behind a count or a length stand zeros. ---- */
+/* ---- The card: to be read at will, to be changed by the calls only. Behind a count or a length stand zeros.
+   A set of applets is a byte: bit n - 1 is applet n's. What is kept by number stands for applet n in place n - 1. ---- */
 
-struct toolkit_applet {
-    uint8_t number;
+struct toolkit_grant {      /* what an applet was installed with; zeros where there is none */
     uint8_t priority;
     uint8_t timers;
-    uint8_t entries;
     uint8_t text;
-    uint8_t made;           /* how many of its entries are rows */
-    bool selectable;        /* not locked */
+    uint8_t entries;
     struct toolkit_pair pairs[TOOLKIT_ENTRIES];
-    bool events[TOOLKIT_EVENTS];    /* registrations, in the order of document 01; call control is toolkit_card.control */
 };
-TOOLKIT_LAYOUT(struct toolkit_applet, 35, 1);
+TOOLKIT_LAYOUT(struct toolkit_grant, 12, 1);
 
-struct toolkit_applets {
-    struct toolkit_applet at[TOOLKIT_APPLETS];      /* in order of installation */
-    uint8_t count;
+struct toolkit_roll {
+    uint8_t present;                                /* set of the applets that are there */
+    uint8_t count;                                  /* how many */
+    uint8_t age[TOOLKIT_APPLETS];                   /* their numbers in order of installation */
+    uint8_t order[TOOLKIT_APPLETS];                 /* and in order of call */
+    struct toolkit_grant grants[TOOLKIT_APPLETS];   /* by number */
 };
-TOOLKIT_LAYOUT(struct toolkit_applets, 281, 1);
+TOOLKIT_LAYOUT(struct toolkit_roll, 114, 1);
 
 struct toolkit_row {
     uint8_t identifier;
@@ -146,30 +144,41 @@ struct toolkit_bank {
 };
 TOOLKIT_LAYOUT(struct toolkit_bank, 8, 1);
 
+struct toolkit_due {        /* what is due, in the order of handing out */
+    bool menu;
+    bool events;
+};
+TOOLKIT_LAYOUT(struct toolkit_due, 2, 1);
+
 struct toolkit_desk {
-    uint8_t title[TOOLKIT_TITLE];
-    uint8_t title_len;
-    uint8_t profile[TOOLKIT_PROFILE];
+    struct toolkit_due due;
     bool session;
     bool outstanding;
-    bool menu_due;
-    bool events_due;
+    uint8_t title_len;
+    uint8_t title[TOOLKIT_TITLE];
+    uint8_t profile[TOOLKIT_PROFILE];
 };
 TOOLKIT_LAYOUT(struct toolkit_desk, 57, 1);
 
 struct toolkit_card {
-    struct toolkit_applets applets;
+    struct toolkit_roll roll;
+    uint8_t selectable;                     /* set of those that are not locked */
+    uint8_t registered[TOOLKIT_EVENTS];     /* for each event, in the order of document 01, the set of those registered; none for call control */
+    uint8_t made[TOOLKIT_APPLETS];          /* by number, how many of its entries are rows */
+    uint8_t control;                        /* who owns call control; 0: nobody */
     struct toolkit_rows rows;
     struct toolkit_bank bank;
-    uint8_t control;        /* who owns call control; 0: nobody */
     struct toolkit_desk desk;
 };
-TOOLKIT_LAYOUT(struct toolkit_card, 588, 1);
-TOOLKIT_FACT(offsetof(struct toolkit_card, applets) == 0);
-TOOLKIT_FACT(offsetof(struct toolkit_card, rows) == 281);
-TOOLKIT_FACT(offsetof(struct toolkit_card, bank) == 522);
-TOOLKIT_FACT(offsetof(struct toolkit_card, control) == 530);
-TOOLKIT_FACT(offsetof(struct toolkit_card, desk) == 531);
+TOOLKIT_LAYOUT(struct toolkit_card, 450, 1);
+TOOLKIT_FACT(offsetof(struct toolkit_card, roll) == 0);
+TOOLKIT_FACT(offsetof(struct toolkit_card, selectable) == 114);
+TOOLKIT_FACT(offsetof(struct toolkit_card, registered) == 115);
+TOOLKIT_FACT(offsetof(struct toolkit_card, made) == 135);
+TOOLKIT_FACT(offsetof(struct toolkit_card, control) == 143);
+TOOLKIT_FACT(offsetof(struct toolkit_card, rows) == 144);
+TOOLKIT_FACT(offsetof(struct toolkit_card, bank) == 385);
+TOOLKIT_FACT(offsetof(struct toolkit_card, desk) == 393);
 
 /* ---- Answers: with a refusal, all else is 0 or false ---- */
 
@@ -194,7 +203,7 @@ struct toolkit_made {
     struct toolkit_card card;
     uint8_t refusal;
 };
-TOOLKIT_LAYOUT(struct toolkit_made, 589, 1);
+TOOLKIT_LAYOUT(struct toolkit_made, 451, 1);
 
 struct toolkit_spot {       /* a part of the caller's bytes */
     size_t start;
@@ -220,43 +229,81 @@ struct toolkit_menu {
 };
 TOOLKIT_LAYOUT(struct toolkit_menu, 228, 1);
 
-/* ---- The doors of the library. No pointer may be null, not even with length 0; the calls of
-   toolkit_calls.h see to that, and are what to use. ---- */
+/* ---- The calls. Each answer has the refusal's number, or 0 and what the call gives; the numbers that a call may give stand with it. A pointer
+   to bytes may be null where their length is 0; no other may. ---- */
 
-/* The calls of toolkit_call, and the bytes that each takes. */
-enum toolkit_code {
-    TOOLKIT_CALL_INSTALL = 1,           /* struct toolkit_request */
-    TOOLKIT_CALL_DELETE = 2,            /* none, where nothing is said */
-    TOOLKIT_CALL_LOCK = 3,
-    TOOLKIT_CALL_UNLOCK = 4,
-    TOOLKIT_CALL_SET_EVENT = 5,         /* event value, 2 bytes, high first */
-    TOOLKIT_CALL_CLEAR_EVENT = 6,       /* event value */
-    TOOLKIT_CALL_ASK_EVENT = 7,         /* event value */
-    TOOLKIT_CALL_NEW_ENTRY = 8,         /* help mark (0 or 1), text */
-    TOOLKIT_CALL_CHANGE_ENTRY = 9,      /* identifier, help mark (0 or 1), text */
-    TOOLKIT_CALL_ENABLE_ENTRY = 10,     /* identifier */
-    TOOLKIT_CALL_DISABLE_ENTRY = 11,    /* identifier */
-    TOOLKIT_CALL_ALLOCATE = 12,
-    TOOLKIT_CALL_RELEASE = 13,          /* timer */
-    TOOLKIT_CALL_PROFILE = 14,          /* the profile; applet not looked at */
-    TOOLKIT_CALL_ENVELOPE = 15,         /* the envelope; applet not looked at */
-    TOOLKIT_CALL_SETTLED = 16,          /* applet not looked at */
-    TOOLKIT_CALL_SEND = 17,             /* the command */
-    TOOLKIT_CALL_SYSTEM_COMMAND = 18,   /* applet not looked at; the one call that writes into the lent buffer */
-    TOOLKIT_CALL_RESPONSE = 19          /* applet not looked at */
-};
+/* Makes a card; its title heads the menu. Refusal 12 makes one with an empty title. */
+struct toolkit_made toolkit_fresh(const void *title, size_t title_len);
 
-struct toolkit_made toolkit_fresh(const uint8_t *title, size_t title_len);
-struct toolkit_answer toolkit_call(struct toolkit_card *card, uint8_t code, uint8_t applet,
-                                   const uint8_t *bytes, size_t bytes_len, uint8_t *out, size_t out_len);
-struct toolkit_spot toolkit_find(const uint8_t *run, size_t run_len, uint16_t tag, size_t occurrence);
-struct toolkit_spot toolkit_content(const uint8_t *envelope, size_t envelope_len);
-struct toolkit_menu toolkit_read_menu(const uint8_t *bytes, size_t bytes_len);
+/* A new applet, selectable. Refusals 2, 3, 4, 5, 6. */
+struct toolkit_answer toolkit_install(struct toolkit_card *card, uint8_t applet, struct toolkit_request request);
+
+/* Removes an applet with its rows, timers and registrations. Refusal 2. */
+struct toolkit_answer toolkit_delete(struct toolkit_card *card, uint8_t applet);
+
+/* A locked applet is not called and its rows are not shown. Refusal 2. */
+struct toolkit_answer toolkit_lock(struct toolkit_card *card, uint8_t applet);
+struct toolkit_answer toolkit_unlock(struct toolkit_card *card, uint8_t applet);
+
+/* Registers an applet for an event (enum toolkit_event). Refusals 2, 7, 8, 9. */
+struct toolkit_answer toolkit_set_event(struct toolkit_card *card, uint8_t applet, int16_t value);
+
+/* Ends a registration. Refusals 2, 7, 8. */
+struct toolkit_answer toolkit_clear_event(struct toolkit_card *card, uint8_t applet, int16_t value);
+
+/* answer.says: the applet is registered for the event. Refusals 2, 7, 8. */
+struct toolkit_answer toolkit_ask_event(struct toolkit_card *card, uint8_t applet, int16_t value);
+
+/* Makes the applet's next entry a row; answer.number is its identifier. Equal texts are rows of their own. Refusals 2, 10, 12. */
+struct toolkit_answer toolkit_new_entry(struct toolkit_card *card, uint8_t applet, bool help, const void *text, size_t text_len);
+
+/* Gives a row a new text and help mark. Refusals 2, 11, 12. */
+struct toolkit_answer toolkit_change_entry(struct toolkit_card *card, uint8_t applet, uint8_t identifier, bool help,
+                                           const void *text, size_t text_len);
+
+/* A disabled row keeps its place and is not shown. Refusals 2, 11. */
+struct toolkit_answer toolkit_enable_entry(struct toolkit_card *card, uint8_t applet, uint8_t identifier);
+struct toolkit_answer toolkit_disable_entry(struct toolkit_card *card, uint8_t applet, uint8_t identifier);
+
+/* Gives the applet the lowest free timer, answer.number. Refusals 2, 13, 14. */
+struct toolkit_answer toolkit_allocate_timer(struct toolkit_card *card, uint8_t applet);
+
+/* Refusals 2, 15. */
+struct toolkit_answer toolkit_release_timer(struct toolkit_card *card, uint8_t applet, uint8_t timer);
+
+/* The terminal's profile begins a session and ends an outstanding command; answer.called are to be called. Refusal 1. */
+struct toolkit_answer toolkit_profile(struct toolkit_card *card, const void *bytes, size_t bytes_len);
+
+/* An envelope of the terminal; answer.called are to be called, with the handlers that answer.marks tells. Refusal 1. */
+struct toolkit_answer toolkit_envelope(struct toolkit_card *card, const void *bytes, size_t bytes_len);
+
+/* Everyone called has returned; answer.called waited for the proactive handler. Refusal 16. */
+struct toolkit_answer toolkit_settled(struct toolkit_card *card);
+
+/* An applet's own proactive command, which is outstanding from then on. Refusals 1, 2, 15, 16, 17. */
+struct toolkit_answer toolkit_send(struct toolkit_card *card, uint8_t applet, const void *bytes, size_t bytes_len);
+
+/* Writes the menu or the event list, whichever is due, at the front of the buffer and makes it outstanding; answer.number is its
+   length, at most 250, or 0 where nothing is due. The rest of the buffer stays. Refusals 16, 18. */
+struct toolkit_answer toolkit_system_command(struct toolkit_card *card, uint8_t *buf, size_t buf_len);
+
+/* The terminal's response ends the outstanding command. Refusal 19. */
+struct toolkit_answer toolkit_response(struct toolkit_card *card);
+
+/* Where the value of an element stands in a run of elements: by its tag number (1 to 7E hex, without the comprehension flag) and its
+   occurrence, counted from 1. */
+struct toolkit_spot toolkit_find(const void *run, size_t run_len, uint16_t tag, size_t occurrence);
+
+/* Where the handler's content stands in an envelope: what follows its length. Of one that is malformed it is the empty part at its end. */
+struct toolkit_spot toolkit_content(const void *envelope, size_t envelope_len);
+
+/* Reads back a menu that a card has written. Refusal 1. */
+struct toolkit_menu toolkit_read_menu(const void *bytes, size_t bytes_len);
 
 /* A timer bank standing alone, of eight owners that may be any bytes: one outside 1..8 counts as free. Gives the lowest free timer
    (answer.number) to an applet that holds fewer than `limit`, or takes a timer back. Refusals 2, 13, 14; and 2, 15. */
-struct toolkit_answer toolkit_allocate(struct toolkit_bank *bank, uint8_t applet, uint8_t limit);
-struct toolkit_answer toolkit_release(struct toolkit_bank *bank, uint8_t applet, uint8_t timer);
+struct toolkit_answer toolkit_bank_allocate(struct toolkit_bank *bank, uint8_t applet, uint8_t limit);
+struct toolkit_answer toolkit_bank_release(struct toolkit_bank *bank, uint8_t applet, uint8_t timer);
 
 #undef TOOLKIT_FACT
 #undef TOOLKIT_LAYOUT
@@ -264,7 +311,5 @@ struct toolkit_answer toolkit_release(struct toolkit_bank *bank, uint8_t applet,
 #ifdef __cplusplus
 }
 #endif
-
-#include "toolkit_calls.h"
 
 #endif

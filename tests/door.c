@@ -1,6 +1,5 @@
-/* Makes calls through the doors of the library. A request on standard input is a struct request, then the bytes, then the lent buffer; what
-   comes back on standard output is whether nothing else was touched, then what the door gave, the card, and the buffer as it was left.
-   Doors: F fresh, C call, E find, N content, M menu reader, A allocate, R release; a small letter takes the header's own call for it. */
+/* Makes calls through the doors of the library. A request on standard input is a struct request, then the bytes given, then the buffer lent; what
+   comes back on standard output is whether nothing else was touched, then what the door gave, the card, and the buffer as it was left. */
 #include <stdio.h>
 #include <string.h>
 #include "toolkit.h"
@@ -8,8 +7,10 @@
 enum { MOST = 4096, GUARD = 64, PAINT = 0xC3 };
 
 struct request {
-    uint8_t door, code, applet, last;
-    uint16_t tag, unused;
+    char door[24];                      /* its name behind toolkit_ */
+    uint8_t applet, number, help, null; /* number: a row, a timer or a limit; null: what has length 0 is a null pointer */
+    int16_t value;
+    uint16_t tag;
     uint32_t length, lent;
     uint64_t occurrence;
 };
@@ -37,74 +38,89 @@ static void put(const void *bytes, size_t length)
     fwrite(bytes, 1, length, stdout);
 }
 
-static struct toolkit_answer by_header(const struct request *r, const uint8_t *bytes, uint8_t *buffer)
+static bool is(const struct request *r, const char *door)
 {
-    struct toolkit_card *card = &held.card;
-    const int value = r->length == 2 ? bytes[0] << 8 | bytes[1] : 0;
-    const int16_t event = (int16_t)(value < 0x8000 ? value : value - 0x10000);
-    switch (r->code) {
-    case TOOLKIT_CALL_INSTALL: return toolkit_install(card, r->applet, (const struct toolkit_request *)bytes);
-    case TOOLKIT_CALL_DELETE: return toolkit_delete(card, r->applet);
-    case TOOLKIT_CALL_LOCK: return toolkit_lock(card, r->applet);
-    case TOOLKIT_CALL_UNLOCK: return toolkit_unlock(card, r->applet);
-    case TOOLKIT_CALL_SET_EVENT: return toolkit_set_event(card, r->applet, event);
-    case TOOLKIT_CALL_CLEAR_EVENT: return toolkit_clear_event(card, r->applet, event);
-    case TOOLKIT_CALL_ASK_EVENT: return toolkit_ask_event(card, r->applet, event);
-    case TOOLKIT_CALL_NEW_ENTRY:
-        return toolkit_new_entry(card, r->applet, bytes[0] != 0, r->length == 1 ? NULL : bytes + 1, r->length - 1);
-    case TOOLKIT_CALL_CHANGE_ENTRY:
-        return toolkit_change_entry(card, r->applet, bytes[0], bytes[1] != 0, r->length == 2 ? NULL : bytes + 2, r->length - 2);
-    case TOOLKIT_CALL_ENABLE_ENTRY: return toolkit_enable_entry(card, r->applet, bytes[0]);
-    case TOOLKIT_CALL_DISABLE_ENTRY: return toolkit_disable_entry(card, r->applet, bytes[0]);
-    case TOOLKIT_CALL_ALLOCATE: return toolkit_allocate_timer(card, r->applet);
-    case TOOLKIT_CALL_RELEASE: return toolkit_release_timer(card, r->applet, bytes[0]);
-    case TOOLKIT_CALL_PROFILE: return toolkit_profile(card, bytes, r->length);
-    case TOOLKIT_CALL_ENVELOPE: return toolkit_envelope(card, bytes, r->length);
-    case TOOLKIT_CALL_SETTLED: return toolkit_settled(card);
-    case TOOLKIT_CALL_SEND: return toolkit_send(card, r->applet, bytes, r->length);
-    case TOOLKIT_CALL_SYSTEM_COMMAND: return toolkit_system_command(card, r->lent == 0 ? NULL : buffer, r->lent);
-    default: return toolkit_response(card);
-    }
+    return strcmp(r->door, door) == 0;
 }
 
+static struct toolkit_answer call(const struct request *r, struct toolkit_card *card, const uint8_t *bytes, uint8_t *buffer)
+{
+    struct toolkit_request request;
+    if (is(r, "install")) {
+        memcpy(&request, bytes, sizeof request);
+        return toolkit_install(card, r->applet, request);
+    }
+    if (is(r, "delete")) return toolkit_delete(card, r->applet);
+    if (is(r, "lock")) return toolkit_lock(card, r->applet);
+    if (is(r, "unlock")) return toolkit_unlock(card, r->applet);
+    if (is(r, "set_event")) return toolkit_set_event(card, r->applet, r->value);
+    if (is(r, "clear_event")) return toolkit_clear_event(card, r->applet, r->value);
+    if (is(r, "ask_event")) return toolkit_ask_event(card, r->applet, r->value);
+    if (is(r, "new_entry")) return toolkit_new_entry(card, r->applet, r->help != 0, bytes, r->length);
+    if (is(r, "change_entry")) return toolkit_change_entry(card, r->applet, r->number, r->help != 0, bytes, r->length);
+    if (is(r, "enable_entry")) return toolkit_enable_entry(card, r->applet, r->number);
+    if (is(r, "disable_entry")) return toolkit_disable_entry(card, r->applet, r->number);
+    if (is(r, "allocate_timer")) return toolkit_allocate_timer(card, r->applet);
+    if (is(r, "release_timer")) return toolkit_release_timer(card, r->applet, r->number);
+    if (is(r, "profile")) return toolkit_profile(card, bytes, r->length);
+    if (is(r, "envelope")) return toolkit_envelope(card, bytes, r->length);
+    if (is(r, "settled")) return toolkit_settled(card);
+    if (is(r, "send")) return toolkit_send(card, r->applet, bytes, r->length);
+    if (is(r, "system_command")) return toolkit_system_command(card, buffer, r->lent);
+    return toolkit_response(card);
+}
+
+static void put_spot(bool whole, struct toolkit_spot spot)
+{
+    put(&whole, 1);
+    put(&spot.start, 8);
+    put(&spot.len, 8);
+    put(&spot.there, 1);
+}
+
+static void put_answer(bool whole, struct toolkit_answer answer)
+{
+    put(&whole, 1);
+    put(&answer, sizeof answer);
+}
+
+/* A call is made before its result is put, so that what it touched is known by then. */
 static void answer_request(const struct request *r)
 {
-    const uint8_t *bytes = given + GUARD, *or_null = r->length == 0 ? NULL : bytes;
-    uint8_t *buffer = lent + GUARD, refusal = 0;
-    struct toolkit_answer answer;
-    struct toolkit_made made;
-    struct toolkit_spot spot;
-    struct toolkit_menu menu;
+    const uint8_t *bytes = r->null && r->length == 0 ? NULL : given + GUARD;
+    uint8_t *buffer = r->null && r->lent == 0 ? NULL : lent + GUARD;
     struct toolkit_bank bank;
     bool whole;
 
-    memset(&answer, PAINT, sizeof answer);
-    memcpy(&bank, bytes, sizeof bank);
-    switch (r->door) {
-    case 'F': made = toolkit_fresh(bytes, r->length); held.card = made.card; refusal = made.refusal; break;
-    case 'f': refusal = toolkit_fresh_card(&held.card, or_null, r->length); break;
-    case 'C': answer = toolkit_call(&held.card, r->code, r->applet, bytes, r->length, buffer, r->lent); break;
-    case 'c': answer = by_header(r, or_null, buffer); break;
-    case 'E': spot = toolkit_find(bytes, r->length, r->tag, r->occurrence); break;
-    case 'e': spot = toolkit_find_element(or_null, r->length, r->tag, r->occurrence); break;
-    case 'N': spot = toolkit_content(bytes, r->length); break;
-    case 'n': spot = toolkit_handler_content(or_null, r->length); break;
-    case 'M': menu = toolkit_read_menu(bytes, r->length); break;
-    case 'm': menu = toolkit_menu_reader(or_null, r->length); break;
-    case 'A': answer = toolkit_allocate(&bank, r->applet, r->last); break;
-    case 'R': answer = toolkit_release(&bank, r->applet, r->last); break;
-    }
-    whole = intact(r);
-    put(&whole, 1);
-    switch (r->door) {
-    case 'F': case 'f': put(&refusal, 1); break;
-    case 'E': case 'e': case 'N': case 'n': put(&spot.start, 8); put(&spot.len, 8); put(&spot.there, 1); break;
-    case 'M': case 'm': put(&menu, sizeof menu); break;
-    case 'A': case 'R': put(&answer, sizeof answer); put(&bank, sizeof bank); break;
-    default: put(&answer, sizeof answer); break;
+    if (is(r, "fresh")) {
+        struct toolkit_made made = toolkit_fresh(bytes, r->length);
+        whole = intact(r);
+        held.card = made.card;
+        put(&whole, 1);
+        put(&made.refusal, 1);
+    } else if (is(r, "find")) {
+        struct toolkit_spot spot = toolkit_find(bytes, r->length, r->tag, r->occurrence);
+        put_spot(intact(r), spot);
+    } else if (is(r, "content")) {
+        struct toolkit_spot spot = toolkit_content(bytes, r->length);
+        put_spot(intact(r), spot);
+    } else if (is(r, "read_menu")) {
+        struct toolkit_menu menu = toolkit_read_menu(bytes, r->length);
+        whole = intact(r);
+        put(&whole, 1);
+        put(&menu, sizeof menu);
+    } else if (is(r, "bank_allocate") || is(r, "bank_release")) {
+        memcpy(&bank, bytes, sizeof bank);
+        struct toolkit_answer answer = is(r, "bank_allocate") ? toolkit_bank_allocate(&bank, r->applet, r->number)
+                                                              : toolkit_bank_release(&bank, r->applet, r->number);
+        put_answer(intact(r), answer);
+        put(&bank, sizeof bank);
+    } else {
+        struct toolkit_answer answer = call(r, &held.card, bytes, buffer);
+        put_answer(intact(r), answer);
     }
     put(&held.card, sizeof held.card);
-    put(buffer, r->lent);
+    put(lent + GUARD, r->lent);
 }
 
 int main(void)

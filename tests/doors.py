@@ -1,67 +1,40 @@
-"""The doors of the C library over the model: what a code and bytes ask for, and the bytes that C must see."""
+"""The doors of the C library over the model: what a door is asked, and the bytes that C must see."""
 
 import struct
 
 import model
-from coding import Answer
 from model import CALL_CONTROL_EVENT
 
-UNKNOWN_CALL, NO_CALL = 100, 101
-NAMES = ["install", "delete", "lock", "unlock", "set_event", "clear_event", "ask_event", "new_entry", "change_entry",
-         "enable_entry", "disable_entry", "allocate", "release", "profile", "envelope", "settled", "send",
-         "system_command", "response"]
-CODES = {name: code for code, name in enumerate(NAMES, 1)}
-LENGTHS = {"install": 12, "set_event": 2, "clear_event": 2, "ask_event": 2, "enable_entry": 1, "disable_entry": 1,
-           "release": 1, "delete": 0, "lock": 0, "unlock": 0, "allocate": 0, "settled": 0, "system_command": 0,
-           "response": 0}
-HELP_AT = {"new_entry": 0, "change_entry": 1}
+CALLS = ["install", "delete", "lock", "unlock", "set_event", "clear_event", "ask_event", "new_entry", "change_entry", "enable_entry",
+         "disable_entry", "allocate", "release", "profile", "envelope", "settled", "send", "system_command", "response"]
+NUMBERED = {"change_entry", "enable_entry", "disable_entry", "release"}
+DOORS = {"allocate": "allocate_timer", "release": "release_timer"}
 EVENT_PLACES = [1, 7, 8, 9, 11, 12, 13, 14, 15, 16, 17, 18, 20, 21, 25, 26, 28, 29, -1, 123]
 
 
+def request(door, data=b"", lent=b"", applet=0, number=0, help=0, null=0, value=0, tag=0, occurrence=0):
+    """The bytes of door.c's struct request, with what is given and lent."""
+    head = struct.pack("<24s4BhHIIQ", door.encode(), applet, number, help, null, value, tag, len(data), len(lent), occurrence)
+    return head + data + lent
+
+
 def arguments(name, inputs):
-    """The applet and the bytes by which C asks for this call."""
-    if name in ("profile", "envelope"):
-        return 0, inputs[0]
-    if name in ("settled", "response", "system_command"):
-        return 0, b""
-    applet, *rest = inputs
-    if name == "install":
-        return applet, bytes([*rest[:4], *(value for pair in rest[4] for value in pair)])
+    """The door of a call on a card, and what the door is asked of the call's inputs, but for the buffer that it lends."""
+    asked, inputs = {}, list(inputs)
+    if name not in ("profile", "envelope", "settled", "response", "system_command"):
+        asked["applet"] = inputs.pop(0)
+    if name in NUMBERED:
+        asked["number"] = inputs.pop(0)
+    if name in ("new_entry", "change_entry"):
+        asked["help"] = inputs.pop(0)
     if name.endswith("_event"):
-        return applet, rest[0].to_bytes(2, "big", signed=True)
-    return applet, b"".join(value if isinstance(value, bytes) else bytes([value]) for value in rest)
-
-
-def is_call(name, data):
-    if name in HELP_AT:
-        return len(data) > HELP_AT[name] and data[HELP_AT[name]] <= 1
-    return len(data) == LENGTHS.get(name, len(data))
-
-
-def inputs_of(name, applet, data, lent):
-    if name in ("profile", "envelope"):
-        return (data,)
-    if name in ("settled", "response"):
-        return ()
-    if name == "system_command":
-        return (lent,)
+        asked["value"] = inputs.pop(0)
     if name == "install":
-        return (applet, *data[:4], [tuple(data[at:at + 2]) for at in (4, 6, 8, 10)])
-    if name.endswith("_event"):
-        return applet, int.from_bytes(data, "big", signed=True)
-    if name in HELP_AT:
-        return (applet, *data[:HELP_AT[name] + 1], data[HELP_AT[name] + 1:])
-    return (applet, data) if name == "send" else (applet, *data)
-
-
-def call(card, code, applet, data, lent):
-    """The answer of the call's door; `lent`, a bytearray, is left as the door leaves it."""
-    if not 1 <= code <= len(NAMES):
-        return Answer(UNKNOWN_CALL)
-    name = NAMES[code - 1]
-    if not is_call(name, data):
-        return Answer(NO_CALL)
-    return getattr(card, name)(*inputs_of(name, applet, data, lent))
+        *limits, pairs = inputs
+        asked["data"] = bytes([*limits, *(value for pair in pairs for value in pair)])
+    elif inputs and name != "system_command":
+        asked["data"] = inputs.pop(0)
+    return DOORS.get(name, name), asked
 
 
 def padded(values, most, size):
@@ -77,21 +50,40 @@ def answer_bytes(answer):
     return bytes([answer.refusal, answer.number, answer.yes]) + called + bytes(answer.marks)
 
 
-def applet_bytes(card, number, applet):
-    made = sum(row.owner == number for row in card.rows)
+def number_set(numbers):
+    """A set of applets as a byte: bit n - 1 is applet n's."""
+    return sum(1 << number - 1 for number in numbers)
+
+
+def grant_bytes(applet):
+    if applet is None:
+        return bytes(12)
     pairs = b"".join(bytes(pair) for pair in applet.pairs).ljust(8, b"\0")
-    events = bytes(event in applet.events and event != CALL_CONTROL_EVENT for event in EVENT_PLACES)
-    return bytes([number, applet.priority, applet.timer_limit, len(applet.pairs), applet.text_limit, made,
-                  not applet.locked]) + pairs + events
+    return bytes([applet.priority, applet.timer_limit, applet.text_limit, len(applet.pairs)]) + pairs
+
+
+def roll_bytes(applets):
+    """Who is there, how many, in order of installation and of call, and what each was installed with, by number."""
+    called = sorted(applets, key=lambda number: (applets[number].priority, -applets[number].installed))
+    grants = b"".join(grant_bytes(applets.get(number)) for number in range(1, 9))
+    return bytes([number_set(applets), len(applets)]) + bytes(applets).ljust(8, b"\0") + bytes(called).ljust(8, b"\0") + grants
+
+
+def registered_bytes(applets):
+    return bytes(number_set(number for number, applet in applets.items() if event in applet.events and event != CALL_CONTROL_EVENT)
+                 for event in EVENT_PLACES)
 
 
 def card_bytes(card):
-    """The 588 bytes of this card: applets in order of installation, rows, owners, call control, the terminal's side."""
-    applets = padded([applet_bytes(card, number, applet) for number, applet in card.applets.items()], 8, 35)
+    """The 450 bytes of this card: the roll, sets and tables by number, call control, rows, timers, the terminal's side."""
+    applets = card.applets
+    selectable = number_set(number for number, applet in applets.items() if not applet.locked)
+    made = bytes(sum(row.owner == number for row in card.rows) for number in range(1, 9))
+    control = [number for number, applet in applets.items() if CALL_CONTROL_EVENT in applet.events] or [0]
     rows = padded([bytes([row.identifier, row.owner, row.help, row.enabled]) + text(row.text, 15) for row in card.rows], 12, 20)
-    control = [number for number, applet in card.applets.items() if CALL_CONTROL_EVENT in applet.events] or [0]
-    marks = bytes([card.session, card.outstanding, card.menu_due, card.events_due])
-    return applets + rows + bytes(card.owners) + bytes(control) + text(card.title, 20) + card.terminal_profile + marks
+    desk = bytes([card.menu_due, card.events_due, card.session, card.outstanding, len(card.title)]) + card.title.ljust(20, b"\0")
+    return (roll_bytes(applets) + bytes([selectable]) + registered_bytes(applets) + made + bytes(control) + rows
+            + bytes(card.owners) + desk + card.terminal_profile)
 
 
 def menu_bytes(answer):

@@ -35,14 +35,12 @@ int main(void)
 {
     const struct toolkit_request station = {.priority = 5, .timers = 1, .entries = 1, .text = 15, .pairs = {{0, 0}}};
     const uint8_t profile[] = {0xFF}, timer_expired[] = {0xD7, 0x07, 0x82, 0x02, 0x82, 0x81, 0xA4, 0x01, 0x01};
-    struct toolkit_card card;
+    struct toolkit_card card = toolkit_fresh("Packing", 7).card;
     struct toolkit_answer answer;
     uint8_t buffer[TOOLKIT_BUFFER];
 
-    if (toolkit_fresh_card(&card, "Packing", 7) != TOOLKIT_ACCEPTED)
-        return 1;
-    print_answer("install applet 1", toolkit_install(&card, 1, &station));
-    print_answer("install applet 2", toolkit_install(&card, 2, &station));
+    print_answer("install applet 1", toolkit_install(&card, 1, station));
+    print_answer("install applet 2", toolkit_install(&card, 2, station));
     print_answer("entry of applet 1", toolkit_new_entry(&card, 1, false, "Pick list", 9));
     print_answer("entry of applet 2", toolkit_new_entry(&card, 2, false, "Pick list", 9));
     print_answer("a second of applet 2", toolkit_new_entry(&card, 2, false, "Crate label", 11));

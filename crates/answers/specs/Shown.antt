@@ -7,7 +7,7 @@ use Rattle.rules.specs.Floor.{decimal, dash, lineOf}
 use Rattle.asks.specs.declared.Gift.{Gift as GiftAsk}
 use Rattle.asks.specs.declared.Gift.the-variants as gift
 use Rattle.asks.specs.declared.Ask.{Ask}
-use Rattle.asks.specs.declared.Ask.the-variants.{Deed, Gift, AskEvent, Arrival, Unknown}
+use Rattle.asks.specs.declared.Ask.the-variants.{Deed, Gift, Arrival, Unknown}
 use Rattle.paper.specs.declared.Answer.{Answer}
 
 -- the identifier or the timer; the command, so many bytes at the front of out
@@ -24,6 +24,5 @@ answerLine k letter a shown = lineOf k letter (decimal (a .refusal)) (if a .refu
 unfoldable pub lineBy : (number letter : ℕ) → Ask → Answer → (out : List ℕ) → List ℕ
 lineBy k letter (Deed x) a out = lineOf k letter (decimal (a .refusal)) []
 lineBy k letter (Gift x) a out = answerLine k letter a (shownGift x a out)
-lineBy k letter AskEvent a out = lineOf k letter (decimal (a .refusal)) []
 lineBy k letter (Arrival x) a out = answerLine k letter a (take (a .count) (a .called))
 lineBy k letter Unknown a out = lineOf k letter dash []

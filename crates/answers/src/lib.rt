@@ -80,7 +80,6 @@ pub fn write_answer(
     match ask {
         Ask::Deed(_) => write_plain(buf, number, letter, refusal),
         Ask::Gift(gift) => write_gift(buf, number, letter, gift, answer, out),
-        Ask::AskEvent => write_plain(buf, number, letter, refusal),
         Ask::Arrival(_) => write_called(buf, number, letter, answer),
         Ask::Unknown => write_plain(buf, number, letter, Refusal::NoCall),
     }

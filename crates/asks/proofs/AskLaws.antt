@@ -13,7 +13,7 @@ use Rattle.rules.specs.declared.Pair.{Pair}
 use Rattle.rules.specs.Bytes.{byte}
 use Rattle.rules.specs.Floor.{requestOf}
 use Rattle.asks.specs.declared.Ask.{Ask}
-use Rattle.asks.specs.Asks.{turned, askOf, fits, callOf, asked}
+use Rattle.asks.specs.Asks.{callOf}
 
 -- what a test says, by the case
 pub fit-as : {A : Type 0} (f : A → List ℕ → Bool) (b : List ℕ) {a k : A} {r : Bool} → a ≡ k → r ≡ f k b → r ≡ f a b
@@ -21,15 +21,6 @@ fit-as {A} f b e r = r ∙ ap (λ (x : A). f x b) (sym e)
 
 pub call-as : (n : ℕ) (b out : List ℕ) {a k : Ask} → a ≡ k → callOf a n b out ≡ callOf k n b out
 call-as n b out e = ap (λ (x : Ask). callOf x n b out) e
-
-module _ (code n : ℕ) (b out : List ℕ) {a : Ask} {r : Bool} (e : a ≡ askOf code) (f : r ≡ fits a b) where
-  pub asked-fits : r ≡ true → asked code n b out ≡ callOf a n b out
-  unfolding asked
-  asked-fits t = rw (← e, sym f ∙ t) refl
-
-  pub asked-not : r ≡ false → asked code n b out ≡ turned 101
-  unfolding asked
-  asked-not t = rw (← e, sym f ∙ t) refl
 
 -- two bytes as a signed number, below 0
 minus-one : (m : ℕ) → negsuc 0 -ℤ pos m ≡ negsuc m

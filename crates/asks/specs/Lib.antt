@@ -1,2 +1,2 @@
--- What a caller in C asks for.
+-- What a record of the floor program asks for.
 pub mod Asks

@@ -1,4 +1,4 @@
-// What a caller asks for, by a code, an applet and bytes; the codes and the bytes that each takes stand in specs/Asks.antt.
+// What a record of the floor program can ask for, and the bytes that each call takes; both stand in specs/Asks.antt.
 // It calls nothing: what is asked for is known before the card is looked at. Here too is what the calls take of the bytes.
 use rules::Pair;
 use rules::Request;
@@ -7,7 +7,7 @@ ghost use Prim.Native.Nat.{_+_, _≤_};
 ghost use lib.ListN.{take, drop};
 ghost use Rattle.rules.specs.Bytes.{byte};
 ghost use Rattle.rules.specs.Floor.{signed, requestOf};
-ghost use Rattle.asks.specs.Asks.{askOf, fits, deedFits, giftFits, arrivalFits, marksHelp};
+ghost use Rattle.asks.specs.Asks.{fits, deedFits, giftFits, arrivalFits, marksHelp};
 
 // A call that only does something.
 pub enum Deed {
@@ -17,11 +17,6 @@ pub enum Deed {
     Unlock,
     SetEvent,
     ClearEvent,
-    ChangeEntry,
-    EnableEntry,
-    DisableEntry,
-    Release,
-    Send,
     Response,
 }
 
@@ -39,20 +34,12 @@ pub enum Arrival {
     Settled,
 }
 
-// What a caller asks for; what is unknown is no call.
+// What a record asks for; what is unknown is no call.
 pub enum Ask {
     Deed(Deed),
     Gift(Gift),
-    AskEvent,
     Arrival(Arrival),
     Unknown,
-}
-
-// The door's own refusals.
-impl Ask {
-    pub const UNKNOWN_CALL: u8 = 100;
-
-    pub const NO_CALL: u8 = 101;
 }
 
 // The bytes from a place on, or none behind the end.
@@ -134,40 +121,12 @@ pub fn request(bytes: &[u8]) -> Request
     }
 }
 
-// What a code asks for.
-pub fn ask_of(code: u8) -> Ask
-    ensures { λ r. ⌜ r ≡ askOf code ⌝ }
+// A help mark, 0 or 1, stands first.
+fn marks_help(bytes: &[u8]) -> bool
+    ensures { λ r. ⌜ r ≡ marksHelp (now (bytes .entry)) ⌝ }
 {
-    match code {
-        1 => Ask::Deed(Deed::Install),
-        2 => Ask::Deed(Deed::Delete),
-        3 => Ask::Deed(Deed::Lock),
-        4 => Ask::Deed(Deed::Unlock),
-        5 => Ask::Deed(Deed::SetEvent),
-        6 => Ask::Deed(Deed::ClearEvent),
-        7 => Ask::AskEvent,
-        8 => Ask::Gift(Gift::NewEntry),
-        9 => Ask::Deed(Deed::ChangeEntry),
-        10 => Ask::Deed(Deed::EnableEntry),
-        11 => Ask::Deed(Deed::DisableEntry),
-        12 => Ask::Gift(Gift::Allocate),
-        13 => Ask::Deed(Deed::Release),
-        14 => Ask::Arrival(Arrival::Profile),
-        15 => Ask::Arrival(Arrival::Envelope),
-        16 => Ask::Arrival(Arrival::Settled),
-        17 => Ask::Deed(Deed::Send),
-        18 => Ask::Gift(Gift::SystemCommand),
-        19 => Ask::Deed(Deed::Response),
-        _ => Ask::Unknown,
-    }
-}
-
-// A help mark, 0 or 1, stands at a place.
-fn marks_help(at: usize, bytes: &[u8]) -> bool
-    ensures { λ r. ⌜ r ≡ marksHelp at (now (bytes .entry)) ⌝ }
-{
-    if at < bytes.len() {
-        return bytes[at] <= 1;
+    if 0 < bytes.len() {
+        return bytes[0] <= 1;
     }
     false
 }
@@ -183,11 +142,6 @@ fn deed_fits(deed: Deed, bytes: &[u8]) -> bool
         Deed::Unlock => n == 0,
         Deed::SetEvent => n == 2,
         Deed::ClearEvent => n == 2,
-        Deed::ChangeEntry => marks_help(1, bytes),
-        Deed::EnableEntry => n == 1,
-        Deed::DisableEntry => n == 1,
-        Deed::Release => n == 1,
-        Deed::Send => true,
         Deed::Response => n == 0,
     }
 }
@@ -197,7 +151,7 @@ fn gift_fits(gift: Gift, bytes: &[u8]) -> bool
 {
     let n = bytes.len();
     match gift {
-        Gift::NewEntry => marks_help(0, bytes),
+        Gift::NewEntry => marks_help(bytes),
         Gift::Allocate => n == 0,
         Gift::SystemCommand => n == 0,
     }
@@ -221,7 +175,6 @@ pub fn fits(ask: Ask, bytes: &[u8]) -> bool
     match ask {
         Ask::Deed(deed) => deed_fits(deed, bytes),
         Ask::Gift(gift) => gift_fits(gift, bytes),
-        Ask::AskEvent => bytes.len() == 2,
         Ask::Arrival(arrival) => arrival_fits(arrival, bytes),
         Ask::Unknown => true,
     }

@@ -2,6 +2,5 @@
 -- speak of are those of the card's calls.
 pub mod DemandOne
 pub mod OneAnswer
-pub mod OnPaper
 pub mod SameRuns
 pub mod RoundTrip

@@ -19,6 +19,7 @@ use Rattle.rules.specs.Holds.{Row, Bounds, Tables, Model, document}
 use Rattle.rules.specs.Rows.{hasIdentifier}
 use Rattle.rules.specs.Commands.{Item, Menu, selectable, shownMenu, menuOf, menuBytes, properItem, mayStand}
 use Rattle.rules.specs.Desk.{dueCommand}
+use Rattle.rules.proofs.DueMarks.{first-due}
 use Rattle.rules.specs.Calls.{Answer, Outcome, numbered, systemCommand}
 use Rattle.rules.specs.Refusals.{lowest, lines, refusal}
 use Rattle.rules.specs.Beside.{readBy, menuReader}
@@ -107,14 +108,13 @@ pub stands-read : (m : Menu) → length (m .items) ≤ 12 → mayStand document 
 unfolding menuReader lowest readBy
 stands-read m h e = rw (accepts document m e, read-back document m h) refl
 
-module _ (m : Model) (buffer : List ℕ) (idle : m .desk .outstanding ≡ false) (due : m .desk .menuDue ≡ true) (room : 256 ≤ length buffer) where
+module _ (m : Model) (buffer : List ℕ) (idle : m .desk .outstanding ≡ false) (due : m .desk .due .menu ≡ true) (room : 256 ≤ length buffer) where
   taken : refusal m (systemCommand buffer) ≡ 0
   unfolding refusal lines lowest
   taken = rw (idle, le-ltb (length buffer) 256 room) refl
 
   command : dueCommand (m .tables) (m .desk) ≡ menuBytes (menuOf (m .desk .title) (shownMenu (m .tables)))
-  unfolding dueCommand
-  command = rw due refl
+  command = first-due (m .tables) (m .desk) ∙ rw due refl
 
   accepted : step m (systemCommand buffer) ≡ outcome 0 m (systemCommand buffer)
   unfolding step
@@ -132,7 +132,7 @@ module _ (m : Model) (buffer : List ℕ) (idle : m .desk .outstanding ≡ false)
 
 -- THE ROUND TRIP. Of every card, with the menu due and nothing outstanding: the number that the call answers is how many bytes of the
 -- buffer are the command, and read back they say the card's title, whether some shown row has help, and the shown rows in order.
-module _ (c : Card) (left : Left c) (buffer : List ℕ) (idle : view c .desk .outstanding ≡ false) (due : view c .desk .menuDue ≡ true) (room : 256 ≤ length buffer) where
+module _ (c : Card) (left : Left c) (buffer : List ℕ) (idle : view c .desk .outstanding ≡ false) (due : view c .desk .due .menu ≡ true) (room : 256 ≤ length buffer) where
   pub menu-read-back
       : (n : ℕ) → step (view c) (systemCommand buffer) .answer ≡ numbered n
       → menuReader document (take n (step (view c) (systemCommand buffer) .buffer))

@@ -3,26 +3,23 @@
 use Prim.Native.Nat.{ℕ}
 use mathlib.Core.Path.{_≡_, refl, ap, _∙_}
 use mathlib.Core.List.{List, _∷_, map}
-use lib.IntN.{ℤ}
 use Rattle.rules.specs.Holds.{Model, document}
-use Rattle.rules.specs.Calls.{Call, Answer, only, event, askEvent, envelope, profile}
-use Rattle.rules.specs.Step.{step, answer, eventAnswer, entryAnswer, timerAnswer, arrivalAnswer}
+use Rattle.rules.specs.Calls.{Call, Answer}
+use Rattle.rules.specs.Step.{step}
 use Rattle.rules.specs.Papers.{paperDone, paperGiven, paperTold, paperCalled}
 use Rattle.rules.specs.Runs.{after}
-use Rattle.rules.proofs.Bounds.{after-keeps}
 use Rattle.card.specs.declared.Card.{Card}
 use Rattle.card.specs.declared.Changed.{Changed}
 use Rattle.card.specs.declared.Numbered.{Numbered}
 use Rattle.card.specs.declared.Asked.{Asked}
 use Rattle.card.specs.declared.Arrived.{Arrived}
 use Rattle.card.specs.View.{view, stored, Left}
-use Rattle.card.specs.Reply.{givenOf, toldOf, calledOf, changedBy, numberedBy, askedBy, arrivedBy, madeBy}
-use Rattle.card.proofs.Left.{view-stored}
+use Rattle.card.specs.Reply.{changedBy, numberedBy, askedBy, arrivedBy, madeBy}
+use Rattle.card.proofs.Left.{after-seen}
+use Rattle.card.proofs.OnPaper.{doing, giving, telling, naming}
 use Rattle.history.specs.Histories.{Entry, did, History}
 use Rattle.history.specs.Runs.{historyOf}
-use Rattle.bridge.specs.Sequences.{Doing, Giving, Naming, Came, made, done, given, told, named}
-use Rattle.bridge.specs.Sequences as is
-use Rattle.bridge.proofs.OnPaper.{done-on-paper, given-on-paper, told-on-paper, called-on-paper}
+use Rattle.bridge.specs.Sequences.{Came, made, done, given, told, named}
 
 -- the calls of a history
 abbrev pub callsOf : History → List Call
@@ -38,7 +35,7 @@ module _ {title : List ℕ} {h : History} {c : Card} (same : Same title h c) whe
   same-left = record { title = title; calls = callsOf h; is = same .holds }
 
   pub same-view : view c ≡ after document title (callsOf h)
-  same-view = ap view (same .holds) ∙ view-stored (after document title (callsOf h)) (after-keeps document title (callsOf h))
+  same-view = ap view (same .holds) ∙ after-seen title (callsOf h)
 
   -- one call more, with the answer that the rules give
   more : (x : Call) {a : Answer} {k : Card} → k ≡ stored (step (view c) x .after) → a ≡ step (view c) x .answer → Same title (did x a ∷ h) k
@@ -49,44 +46,16 @@ module _ {title : List ℕ} {h : History} {c : Card} (same : Same title h c) whe
         history = rw (p, same-view, ← same .history) refl;
       }
 
--- on paper the card's answers are the rules'
-pub doing : (m : Model) {x : Call} → Doing x → answer m x ≡ only 0
-unfolding answer eventAnswer entryAnswer timerAnswer
-doing m (is.is-admin x) = refl
-doing m (is.is-set n v) = refl
-doing m (is.is-clear n v) = refl
-doing m (is.is-change n i help text) = refl
-doing m (is.is-enable n i) = refl
-doing m (is.is-disable n i) = refl
-doing m (is.is-release n k) = refl
-doing m (is.is-proactive x) = refl
-
-pub giving : (m : Model) {x : Call} → Giving x → paperGiven (givenOf (step m x .answer)) ≡ step m x .answer
-unfolding answer entryAnswer timerAnswer
-giving m (is.is-new n help text) = given-on-paper m _ refl
-giving m (is.is-allocate n) = given-on-paper m _ refl
-giving m (is.is-command buffer) = given-on-paper m _ refl
-
-pub naming : (m : Model) {x : Call} → Naming x → paperCalled (calledOf (step m x .answer)) ≡ step m x .answer
-unfolding answer arrivalAnswer
-naming m (is.is-arrival (envelope bytes)) = called-on-paper m _ refl
-naming m (is.is-arrival (profile bytes)) = called-on-paper m _ refl
-naming m is.is-settled = called-on-paper m _ refl
-
-pub telling : (m : Model) (n : ℕ) (v : ℤ) → paperTold (toldOf (step m (event (askEvent n v)) .answer)) ≡ step m (event (askEvent n v)) .answer
-unfolding answer eventAnswer
-telling m n v = told-on-paper m _ refl
-
 -- EVERY CARD THAT THE PUBLIC FUNCTIONS HAVE LEFT, with its history
 pub came-same : {title : List ℕ} {h : History} {c : Card} → Came title h c → Same title h c
 unfolding changedBy numberedBy askedBy arrivedBy madeBy after historyOf
 came-same (made r e) = record { holds = ap (λ (r : Changed). r .card) e; history = refl }
 came-same (done {c = c} {x = x} d r e w) =
-    more (came-same w) x (ap (λ (r : Changed). r .card) e) (ap (λ (r : Changed). paperDone (r .answer)) e ∙ done-on-paper (view c) x (doing (view c) d))
+    more (came-same w) x (ap (λ (r : Changed). r .card) e) (ap (λ (r : Changed). paperDone (r .answer)) e ∙ doing (view c) d)
 came-same (given {c = c} {x = x} d r e w) =
     more (came-same w) x (ap (λ (r : Numbered). r .card) e) (ap (λ (r : Numbered). paperGiven (r .answer)) e ∙ giving (view c) d)
-came-same (told {c = c} n v r e w) =
-    more (came-same w) (event (askEvent n v)) (ap (λ (r : Asked). r .card) e) (ap (λ (r : Asked). paperTold (r .answer)) e ∙ telling (view c) n v)
+came-same (told {c = c} {x = x} d r e w) =
+    more (came-same w) x (ap (λ (r : Asked). r .card) e) (ap (λ (r : Asked). paperTold (r .answer)) e ∙ telling (view c) d)
 came-same (named {c = c} {x = x} d r e w) =
     more (came-same w) x (ap (λ (r : Arrived). r .card) e) (ap (λ (r : Arrived). paperCalled (r .answer)) e ∙ naming (view c) d)
 

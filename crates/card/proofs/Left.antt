@@ -2,31 +2,30 @@
 -- holds what it is read as. So a contract that takes `Left self` for granted leaves a card that is `Left` again.
 -- Assumes nothing.
 use native.Mathlib.Omega.{arith}
-use mathlib.Core.Path.{_≡_, refl, sym, ap, _∙_}
-use mathlib.Core.List.{_∷_}
 use lib.ListN.{length}
-use Rattle.rules.specs.declared.Applets.{Applets}
 use Rattle.rules.specs.declared.Rows.{Rows}
+use Rattle.rules.specs.Held.{storedRows, TidyRows}
+use mathlib.Core.Path.{_≡_, sym, ap, _∙_}
+use Prim.Native.Nat.{ℕ}
+use mathlib.Core.List.{List, _∷_}
 use Rattle.rules.specs.Holds.{Bounds, Model, document}
-use Rattle.rules.specs.Held.{storedApplets, storedRows, TidyApplets, TidyRows}
 use Rattle.rules.specs.Calls.{Call}
 use Rattle.rules.specs.Step.{step}
 use Rattle.rules.specs.Runs.{after}
 use Rattle.rules.proofs.Bounds.{after-keeps}
-use Rattle.rules.proofs.Held.{applets-back, rows-back, desk-back}
 use Rattle.runs.specs.Sound.{Sound}
 use Rattle.runs.proofs.Run.{run-sound}
 use Rattle.card.specs.declared.Card.{Card}
 use Rattle.card.specs.View.{view, stored, Left}
+use Rattle.card.proofs.Back.{view-stored}
 
--- a model with the bounds of the document is what its card is read as
-pub view-stored : (m : Model) → m .tables .bounds ≡ document → view (stored m) ≡ m
-unfolding view stored
-view-stored m e = rw (applets-back (m .tables .applets), rows-back (m .tables .rows), desk-back (m .desk), sym e) refl
+-- what a card that holds what calls leave is read as
+pub after-seen : (title : List ℕ) (calls : List Call) → view (stored (after document title calls)) ≡ after document title calls
+after-seen title calls = view-stored (after document title calls) (run-sound title calls) (after-keeps document title calls)
 
 -- what a card that calls have left is read as, and that it is the one form of it
 pub view-left : (c : Card) (l : Left c) → view c ≡ after document (l .title) (l .calls)
-view-left c l = ap view (l .is) ∙ view-stored (after document (l .title) (l .calls)) (after-keeps document (l .title) (l .calls))
+view-left c l = ap view (l .is) ∙ after-seen (l .title) (l .calls)
 
 pub left-form : (c : Card) → Left c → c ≡ stored (view c)
 left-form c l = l .is ∙ sym (ap stored (view-left c l))
@@ -44,15 +43,7 @@ left-sound c l = rw (view-left c l) (run-sound (l .title) (l .calls))
 pub left-bounds : (c : Card) → Left c → view c .tables .bounds ≡ document
 left-bounds c l = rw (view-left c l) (after-keeps document (l .title) (l .calls))
 
--- and its tables stand in their one form
-pub tidy-applets : (c : Card) → Left c → TidyApplets (c .applets)
-unfolding view stored storedApplets
-tidy-applets c l =
-    let form = ap (λ (k : Card). k .applets) (left-form c l) in
-    let few = left-sound c l .tables .few-applets in
-    let many : c .applets .count ≡ length (view c .tables .applets) = ap (λ (x : Applets). x .count) form in
-    record { few = omega (arith, ap (λ (b : Bounds). b .applets) (left-bounds c l)); form = form }
-
+-- and its rows stand in their one form
 pub tidy-rows : (c : Card) → Left c → TidyRows (c .rows)
 unfolding view stored storedRows
 tidy-rows c l =

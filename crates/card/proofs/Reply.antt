@@ -1,131 +1,153 @@
--- What a method hands back is the rules' reply: a refusal hands the card back as it was, an accepted call the card that holds the
--- changed model. Every answer is the document's, and no refusal says more than its number. Assumes nothing.
+-- What a call leaves, by its refusal; the parts of a card that calls have left; and the reply by its parts.
+-- Assumes nothing.
 use Prim.Native.Nat.{ℕ, zero, suc}
+use native.Mathlib.Omega.{arith}
 use mathlib.Core.Path.{_≡_, refl, sym, ap, _∙_}
-use mathlib.Core.Bool.{true, false}
-use lib.ListN.{replicate}
+use mathlib.Core.Bool.{Bool, true, false, _&&_, _||_}
+use mathlib.Core.List.{List, map}
 use borrow.Author.Tests.{ne-eqb}
-use Rattle.lists.specs.Lists.{padded}
-use Rattle.rules.specs.declared.Done.the-variants as done
-use Rattle.rules.specs.declared.Given.the-variants as given
-use Rattle.rules.specs.declared.Told.the-variants as told
+use Rattle.lists.specs.Tests.{if_then_else_, _==_}
+use Rattle.lists.proofs.Truth.{or-false}
+use Rattle.lists.specs.Tables.{table}
+use Rattle.rules.specs.declared.Done.{Done}
+use Rattle.rules.specs.declared.Given.{Given}
+use Rattle.rules.specs.declared.Told.{Told}
 use Rattle.rules.specs.declared.Called.{Called}
-use Rattle.rules.specs.declared.Applets.{Applets}
 use Rattle.rules.specs.declared.Rows.{Rows}
 use Rattle.rules.specs.declared.Bank.{Bank}
 use Rattle.rules.specs.declared.Desk as held-desk
-use Rattle.rules.specs.Holds.{Model}
-use Rattle.rules.specs.Held.{storedApplets, storedRows, storedDesk}
-use Rattle.rules.specs.Arrivals.{noMarks}
-use Rattle.rules.specs.Calls.{Call, Outcome, only, numbered, saying}
+use Rattle.rules.specs.Holds.{Tables, Desk, Model}
+use Rattle.rules.specs.Held.{storedRows, storedDesk}
+use Rattle.rules.specs.Calls.{Call, Outcome, Answer, only}
 use Rattle.rules.specs.Refusals.{refusal}
-use Rattle.rules.specs.Step.{changed, answer, written, lent, outcome, step}
+use Rattle.rules.specs.Desk.{marked, menuChanges, eventsChange}
+use Rattle.rules.specs.Step.{changed, tablesAfter, deskAfter, answer, outcome, step}
+use Rattle.rules.proofs.DueMarks.{marked-same}
 use Rattle.card.specs.declared.Card.{Card}
+use Rattle.rules.specs.declared.Roll.{Roll}
 use Rattle.card.specs.declared.Changed.{Changed}
 use Rattle.card.specs.declared.Numbered.{Numbered}
 use Rattle.card.specs.declared.Asked.{Asked}
 use Rattle.card.specs.declared.Arrived.{Arrived}
+use Rattle.applets.specs.ByNumber.{rollOf, selectableSet, registeredSet, madeTable}
 use Rattle.card.specs.View.{view, stored, Left}
-use Rattle.card.specs.Reply.{doneOf, givenOf, toldOf, calledOf, changedBy, numberedBy, askedBy, arrivedBy}
+use Rattle.card.specs.Reply.{changedBy, numberedBy, askedBy, arrivedBy, doneOf, givenOf, toldOf, calledOf}
 use Rattle.card.proofs.Left.{left-form}
+use Rattle.card.proofs.Marks.{withDue, due-desk}
+
+-- the reply by its parts
+pub gives : (o : Outcome) {k : Card} {a : Given} → k ≡ stored (o .after) → a ≡ givenOf (o .answer) → _≡_ {A = Numbered} (record { card = k; answer = a }) (numberedBy o)
+unfolding numberedBy
+gives o p q = rw (p, q) refl
+
+pub changes : (o : Outcome) {k : Card} {a : Done} → k ≡ stored (o .after) → a ≡ doneOf (o .answer) → _≡_ {A = Changed} (record { card = k; answer = a }) (changedBy o)
+unfolding changedBy
+changes o p q = rw (p, q) refl
+
+pub asks : (o : Outcome) {k : Card} {a : Told} → k ≡ stored (o .after) → a ≡ toldOf (o .answer) → _≡_ {A = Asked} (record { card = k; answer = a }) (askedBy o)
+unfolding askedBy
+asks o p q = rw (p, q) refl
+
+pub arrives : (o : Outcome) {k : Card} {a : Called} → k ≡ stored (o .after) → a ≡ calledOf (o .answer) → _≡_ {A = Arrived} (record { card = k; answer = a }) (arrivedBy o)
+unfolding arrivedBy
+arrives o p q = rw (p, q) refl
+
+-- the tables that a call leaves, by its refusal
+abbrev pub tablesBy : Model → Call → (refusal : ℕ) → Tables
+tablesBy m x r = if r == 0 then tablesAfter (m .tables) x else m .tables
+
+module _ (m : Model) (x : Call) {r : ℕ} (e : r ≡ refusal m x) where
+  -- what a call leaves that touches the desk by its marks only
+  pub after-by : deskAfter m x ≡ m .desk → step m x .after ≡ record { tables = tablesBy m x r; desk = marked (m .tables) (tablesBy m x r) (m .desk) }
+  unfolding step
+  after-by still = ap (λ (k : ℕ). outcome k m x .after) (sym e) ∙ go r
+    where
+      go : (k : ℕ) → outcome k m x .after ≡ record { tables = tablesBy m x k; desk = marked (m .tables) (tablesBy m x k) (m .desk) }
+      go zero = unfold outcome changed in ap (λ (d : Desk). record { tables = tablesAfter (m .tables) x; desk = marked (m .tables) (tablesAfter (m .tables) x) d }) still
+      go (suc k) = unfold outcome in
+          rw (ne-eqb (suc k) 0 (λ z. omega arith)) (ap (λ (d : Desk). record { tables = m .tables; desk = d }) (sym (marked-same (m .tables) (m .desk))))
+
+  -- the answer of a call that only does something
+  pub answer-by : answer m x ≡ only 0 → step m x .answer ≡ only r
+  unfolding step
+  answer-by plain = ap (λ (k : ℕ). outcome k m x .answer) (sym e) ∙ go r
+    where
+      go : (k : ℕ) → outcome k m x .answer ≡ only k
+      go zero = unfold outcome in plain
+      go (suc k) = unfold outcome in refl
 
 -- the card that holds a model, part by part
 pub card-is
-    : (m : Model) {a : Applets} {r : Rows} {b : Bank} {k : ℕ} {d : held-desk.Desk}
-    → a ≡ storedApplets (m .tables .applets)
+    : (m : Model) {a : Roll} {s : ℕ} {g : List ℕ} {f : List ℕ} {k : ℕ} {r : Rows} {b : Bank} {d : held-desk.Desk}
+    → a ≡ rollOf (m .tables .applets)
+    → s ≡ selectableSet (m .tables .applets)
+    → g ≡ table 20 (registeredSet (m .tables .applets))
+    → f ≡ madeTable (m .tables .applets)
+    → k ≡ m .tables .control
     → r ≡ storedRows (m .tables .rows)
     → b .owner ≡ m .tables .timers
-    → k ≡ m .tables .control
     → d ≡ storedDesk (m .desk)
-    → _≡_ {A = Card} (record { applets = a; rows = r; bank = b; control = k; desk = d }) (stored m)
+    → _≡_ {A = Card} (record { roll = a; selectable = s; registered = g; made = f; control = k; rows = r; bank = b; desk = d }) (stored m)
 unfolding stored
-card-is m p q s t u = rw (p, q, sym s, sym t, u) refl
+card-is m p q s t u v w x = rw (p, q, s, t, u, v, sym w, x) refl
 
 -- the parts of a card that calls have left
 module _ (c : Card) (left : Left c) where
-  pub applets-form : c .applets ≡ storedApplets (view c .tables .applets)
+  pub roll-form : c .roll ≡ rollOf (view c .tables .applets)
   unfolding stored
-  applets-form = ap (λ (k : Card). k .applets) (left-form c left)
+  roll-form = ap (λ (k : Card). k .roll) (left-form c left)
 
-  pub rows-form : c .rows ≡ storedRows (view c .tables .rows)
+  pub selectable-form : c .selectable ≡ selectableSet (view c .tables .applets)
   unfolding stored
-  rows-form = ap (λ (k : Card). k .rows) (left-form c left)
+  selectable-form = ap (λ (k : Card). k .selectable) (left-form c left)
 
-  pub desk-form : c .desk ≡ storedDesk (view c .desk)
+  pub registered-form : c .registered ≡ table 20 (registeredSet (view c .tables .applets))
   unfolding stored
-  desk-form = ap (λ (k : Card). k .desk) (left-form c left)
+  registered-form = ap (λ (k : Card). k .registered) (left-form c left)
 
-  pub bank-form : c .bank .owner ≡ view c .tables .timers
-  unfolding view
-  bank-form = refl
+  pub made-form : c .made ≡ madeTable (view c .tables .applets)
+  unfolding stored
+  made-form = ap (λ (k : Card). k .made) (left-form c left)
 
   pub control-form : c .control ≡ view c .tables .control
   unfolding view
   control-form = refl
 
--- the outcome of a call by its refusal
-module _ (m : Model) (x : Call) (n : ℕ) (e : n ≡ refusal m x) where
-  pub when-refused : (n ≡ 0 → ⊥) → step m x ≡ record { after = m; answer = only n; buffer = lent x }
-  unfolding step
-  when-refused z = ap (λ (k : ℕ). outcome k m x) (sym e) ∙ go n z
-    where
-      go : (k : ℕ) → (k ≡ 0 → ⊥) → outcome k m x ≡ record { after = m; answer = only k; buffer = lent x }
-      go zero q = absurd (q refl)
-      go (suc k) q = unfold outcome in refl
+  pub rows-form : c .rows ≡ storedRows (view c .tables .rows)
+  unfolding stored
+  rows-form = ap (λ (k : Card). k .rows) (left-form c left)
 
-  pub when-accepted : n ≡ 0 → step m x ≡ record { after = changed m x; answer = answer m x; buffer = written m x }
-  unfolding step
-  when-accepted z = ap (λ (k : ℕ). outcome k m x) (sym e ∙ z) ∙ unfold outcome in refl
+  pub bank-form : c .bank .owner ≡ view c .tables .timers
+  unfolding view
+  bank-form = refl
 
--- a reply that is refused, and one that is accepted
-module _ (c : Card) (left : Left c) (x : Call) {n : ℕ} (e : n ≡ refusal (view c) x) where
-  module _ (z : n ≡ 0 → ⊥) where
-    as-it-was : c ≡ stored (step (view c) x .after)
-    as-it-was = left-form c left ∙ ap stored (sym (ap (λ (o : Outcome). o .after) (when-refused (view c) x n e z)))
+  pub desk-form : c .desk ≡ storedDesk (view c .desk)
+  unfolding stored
+  desk-form = ap (λ (k : Card). k .desk) (left-form c left)
 
-    only-number : step (view c) x .answer ≡ only n
-    only-number = ap (λ (o : Outcome). o .answer) (when-refused (view c) x n e z)
+-- THE CARD AFTER A CALL that leaves what an install fixes, the entries made, the rows and the timers
+module _ (c : Card) (left : Left c) (u : Tables) where
+  abbrev t : Tables
+  t = view c .tables
 
-    pub refused-changed : _≡_ {A = Changed} (record { card = c; answer = done.Refused n }) (changedBy (step (view c) x))
-    unfolding changedBy doneOf
-    refused-changed = rw (← as-it-was, only-number, ne-eqb n 0 z) refl
-
-    pub refused-numbered : _≡_ {A = Numbered} (record { card = c; answer = given.Refused n }) (numberedBy (step (view c) x))
-    unfolding numberedBy givenOf
-    refused-numbered = rw (← as-it-was, only-number, ne-eqb n 0 z) refl
-
-    pub refused-asked : _≡_ {A = Asked} (record { card = c; answer = told.Refused n }) (askedBy (step (view c) x))
-    unfolding askedBy toldOf
-    refused-asked = rw (← as-it-was, only-number, ne-eqb n 0 z) refl
-
-    pub refused-arrived
-        : _≡_ {A = Arrived} (record { card = c; answer = record { refusal = n; at = replicate 8 0; count = 0; marks = noMarks } }) (arrivedBy (step (view c) x))
-    unfolding arrivedBy calledOf padded
-    refused-arrived = rw (← as-it-was, only-number) refl
-
-  module _ (z : n ≡ 0) {k : Card} (q : k ≡ stored (changed (view c) x)) where
-    held-after : k ≡ stored (step (view c) x .after)
-    held-after = q ∙ ap stored (sym (ap (λ (o : Outcome). o .after) (when-accepted (view c) x n e z)))
-
-    its-answer : step (view c) x .answer ≡ answer (view c) x
-    its-answer = ap (λ (o : Outcome). o .answer) (when-accepted (view c) x n e z)
-
-    pub accepted-changed : answer (view c) x ≡ only 0 → _≡_ {A = Changed} (record { card = k; answer = done.Accepted }) (changedBy (step (view c) x))
-    unfolding changedBy doneOf
-    accepted-changed a = rw (← held-after, its-answer, a) refl
-
-    pub accepted-numbered : {i : ℕ} → answer (view c) x ≡ numbered i → _≡_ {A = Numbered} (record { card = k; answer = given.Number i }) (numberedBy (step (view c) x))
-    unfolding numberedBy givenOf
-    accepted-numbered a = rw (← held-after, its-answer, a) refl
-
-    pub accepted-yes : answer (view c) x ≡ saying true → _≡_ {A = Asked} (record { card = k; answer = told.Yes }) (askedBy (step (view c) x))
-    unfolding askedBy toldOf
-    accepted-yes a = rw (← held-after, its-answer, a) refl
-
-    pub accepted-no : answer (view c) x ≡ saying false → _≡_ {A = Asked} (record { card = k; answer = told.No }) (askedBy (step (view c) x))
-    unfolding askedBy toldOf
-    accepted-no a = rw (← held-after, its-answer, a) refl
-
-    pub accepted-arrived : {a : Called} → a ≡ calledOf (answer (view c) x) → _≡_ {A = Arrived} (record { card = k; answer = a }) (arrivedBy (step (view c) x))
-    unfolding arrivedBy
-    accepted-arrived {a} h = rw (← held-after, its-answer, h) refl
+  pub next-card
+      : rollOf (u .applets) ≡ rollOf (t .applets)
+      → madeTable (u .applets) ≡ madeTable (t .applets)
+      → u .rows ≡ t .rows
+      → u .timers ≡ t .timers
+      → {s : ℕ} {g : List ℕ} {o : ℕ} {x y menu events : Bool}
+      → s ≡ selectableSet (u .applets)
+      → g ≡ table 20 (registeredSet (u .applets))
+      → o ≡ u .control
+      → menu ≡ menuChanges t u
+      → events ≡ eventsChange t u
+      → x ≡ (c .desk .session && menu || c .desk .due .menu)
+      → y ≡ (c .desk .session && events || c .desk .due .events)
+      → _≡_ {A = Card}
+      (record { roll = c .roll; selectable = s; registered = g; made = c .made; control = o; rows = c .rows; bank = c .bank; desk = withDue (c .desk) x y })
+      (stored (record { tables = u; desk = marked t u (view c .desk) }))
+  next-card roll made rows timers sel reg own p q x y =
+      card-is (record { tables = u; desk = marked t u (view c .desk) })
+      (roll-form c left ∙ sym roll) sel reg (made-form c left ∙ sym made) own
+      (rows-form c left ∙ ap storedRows (sym rows)) (bank-form c left ∙ sym timers)
+      (due-desk t u (view c .desk) (desk-form c left) p q x y)

@@ -1,23 +1,16 @@
-// The calls about menu entries: new, change, enable, disable.
-// A row is known by its identifier; whether a call changes the shown menu is asked before it is made.
+// The calls about menu entries: new, change, enable, disable. Each has one way through: a refused call leaves what was there.
+// A row is known by its identifier; it is found, changed and told of in one pass over the rows.
 use crate::Card;
 use crate::Changed;
 use crate::Numbered;
-use rules::Desk;
-use rules::Done;
-use rules::Given;
+use crate::done_of;
+use crate::due_after;
+use crate::given_of;
 ghost use mathlib.Core.Path.{_≡_};
 ghost use Rattle.rules.specs.Calls.{entry, newEntry, changeEntry, enableEntry, disableEntry};
 ghost use Rattle.rules.specs.Step.{step};
 ghost use Rattle.card.specs.View.{view, Left};
 ghost use Rattle.card.specs.Reply.{changedBy, numberedBy};
-ghost use Rattle.card.specs.Turns.{Turns};
-
-// What two calls need to know before a row is turned.
-struct Turned {
-    desk: Desk,
-    refusal: u8,
-}
 
 impl Card {
     // Makes the applet's next entry: a row at its requested position, with its requested identifier or a free one.
@@ -25,32 +18,30 @@ impl Card {
         requires { ⌜ Left self ⌝ }
         ensures { λ r. ⌜ r ≡ numberedBy (step (view self) (entry (newEntry applet help (now (text .entry))))) ⌝ }
     {
-        let applets = self.applets;
-        let rows = self.rows;
-        let desk = self.desk;
-        let looked = registry::look(applets, applet);
-        let owner = looked.applet;
-        let refusal = refusals::new_refusal(looked.there, owner, text);
-        if refusal != 0 {
-            return Numbered {
-                card: self,
-                answer: Given::Refused(refusal),
-            };
-        }
-        let pair = parts::next_pair(owner);
-        let identifier = rows::identifier_for(rows, pair.identifier);
-        let row = rows::row_of(identifier, applet, help, text);
-        let next = menu::inserted(rows, pair.position, row);
-        let more = altered::one_more(applets, applet);
-        let due = due::marked(desk, owner.selectable, false);
         let mut left = self;
-        left.applets = more;
-        left.rows = next;
-        left.desk = due;
-        Numbered {
-            card: left,
-            answer: Given::Number(identifier),
+        let there = sets::has(left.roll.present, applet);
+        let grants = left.roll.grants;
+        let grant = applets::grant_at(grants, applet);
+        let made = left.made;
+        let count = applets::made_at(made, applet);
+        let fits = refusals::fits(grant.text, text);
+        let refusal = refusals::new_refusal(there, grant.entries, count, fits);
+        let mut identifier: u8 = 0;
+        if refusal == 0 {
+            let rows = left.rows;
+            let pair = applets::next_pair(grant, count);
+            identifier = rows::identifier_for(rows, pair.identifier);
+            let row = rows::row_of(identifier, applet, help, text);
+            let next = menu::inserted(rows, pair.position, row);
+            let more = applets::made_with(made, applet, count + 1);
+            let turns = sets::has(left.selectable, applet);
+            let due = due_after(left.desk.session, left.desk.due.menu, turns);
+            left.made = more;
+            left.rows = next;
+            left.desk.due.menu = due;
         }
+        let answer = given_of(refusal, identifier);
+        Numbered { card: left, answer }
     }
 
     // Gives a row of the applet a new text and help mark.
@@ -58,43 +49,21 @@ impl Card {
         requires { ⌜ Left self ⌝ }
         ensures { λ r. ⌜ r ≡ changedBy (step (view self) (entry (changeEntry applet identifier help (now (text .entry))))) ⌝ }
     {
-        let applets = self.applets;
-        let rows = self.rows;
-        let desk = self.desk;
-        let looked = registry::look(applets, applet);
-        let owner = looked.applet;
-        let refusal = refusals::change_refusal(looked.there, owner, rows, applet, identifier, text);
-        if refusal != 0 {
-            return Changed {
-                card: self,
-                answer: Done::Refused(refusal),
-            };
-        }
-        let turns = shown::turns_text(rows, identifier, help, text);
-        let next = rows::changed(rows, identifier, help, text);
-        let due = due::marked_row(desk, owner.selectable, turns);
         let mut left = self;
+        let there = sets::has(left.roll.present, applet);
+        let shown = sets::has(left.selectable, applet);
+        let grants = left.roll.grants;
+        let grant = applets::grant_at(grants, applet);
+        let fits = refusals::fits(grant.text, text);
+        let rows = left.rows;
+        let worded = rows::changed(rows, applet, identifier, fits, help, text);
+        let due = due_after(left.desk.session, left.desk.due.menu, shown & worded.turns);
+        let next = worded.rows;
         left.rows = next;
-        left.desk = due;
-        Changed {
-            card: left,
-            answer: Done::Accepted,
-        }
-    }
-
-    // The refusal of a call that enables a row of the applet, or disables it, and the desk after it.
-    fn turn_entry(self, applet: u8, identifier: u8, on: bool) -> Turned
-        requires { ⌜ Left self ⌝ }
-        ensures { λ r. ⌜ Turns self applet identifier on (r .desk) (r .refusal) ⌝ }
-    {
-        let applets = self.applets;
-        let rows = self.rows;
-        let desk = self.desk;
-        let looked = registry::look(applets, applet);
-        let refusal = refusals::row_refusal(looked.there, rows, applet, identifier);
-        let turns = shown::turns_enabled(rows, identifier, on);
-        let due = due::marked_row(desk, looked.applet.selectable, turns);
-        Turned { desk: due, refusal }
+        left.desk.due.menu = due;
+        let refusal = refusals::change_refusal(there, worded.its, fits);
+        let answer = done_of(refusal);
+        Changed { card: left, answer }
     }
 
     // Enables a row of the applet.
@@ -102,24 +71,18 @@ impl Card {
         requires { ⌜ Left self ⌝ }
         ensures { λ r. ⌜ r ≡ changedBy (step (view self) (entry (enableEntry applet identifier))) ⌝ }
     {
-        let turned = self.turn_entry(applet, identifier, true);
-        let refusal = turned.refusal;
-        if refusal != 0 {
-            return Changed {
-                card: self,
-                answer: Done::Refused(refusal),
-            };
-        }
-        let rows = self.rows;
-        let next = rows::enabled(rows, identifier, true);
-        let due = turned.desk;
         let mut left = self;
+        let there = sets::has(left.roll.present, applet);
+        let shown = sets::has(left.selectable, applet);
+        let rows = left.rows;
+        let turned = rows::enabled(rows, applet, identifier, true);
+        let due = due_after(left.desk.session, left.desk.due.menu, shown & turned.turns);
+        let next = turned.rows;
         left.rows = next;
-        left.desk = due;
-        Changed {
-            card: left,
-            answer: Done::Accepted,
-        }
+        left.desk.due.menu = due;
+        let refusal = refusals::row_refusal(there, turned.its);
+        let answer = done_of(refusal);
+        Changed { card: left, answer }
     }
 
     // Disables a row of the applet.
@@ -127,23 +90,17 @@ impl Card {
         requires { ⌜ Left self ⌝ }
         ensures { λ r. ⌜ r ≡ changedBy (step (view self) (entry (disableEntry applet identifier))) ⌝ }
     {
-        let turned = self.turn_entry(applet, identifier, false);
-        let refusal = turned.refusal;
-        if refusal != 0 {
-            return Changed {
-                card: self,
-                answer: Done::Refused(refusal),
-            };
-        }
-        let rows = self.rows;
-        let next = rows::enabled(rows, identifier, false);
-        let due = turned.desk;
         let mut left = self;
+        let there = sets::has(left.roll.present, applet);
+        let shown = sets::has(left.selectable, applet);
+        let rows = left.rows;
+        let turned = rows::enabled(rows, applet, identifier, false);
+        let due = due_after(left.desk.session, left.desk.due.menu, shown & turned.turns);
+        let next = turned.rows;
         left.rows = next;
-        left.desk = due;
-        Changed {
-            card: left,
-            answer: Done::Accepted,
-        }
+        left.desk.due.menu = due;
+        let refusal = refusals::row_refusal(there, turned.its);
+        let answer = done_of(refusal);
+        Changed { card: left, answer }
     }
 }

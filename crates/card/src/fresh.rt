@@ -1,42 +1,62 @@
 // The fresh card.
 use crate::Card;
 use crate::Changed;
+use crate::done_of;
 use rules::Bank;
 use rules::Desk;
-use rules::Done;
+use rules::Due;
+use rules::Kind;
+use rules::Roll;
 ghost use mathlib.Core.Path.{_≡_};
 ghost use Prim.Native.Nat.{_≤_};
 ghost use lib.ListN.{length};
+ghost use Rattle.lists.specs.Tests.{if_then_else_, _==_};
 ghost use Rattle.rules.specs.Holds.{document, fresh};
 ghost use Rattle.rules.specs.Beside.{freshCard};
 ghost use Rattle.card.specs.View.{stored};
 ghost use Rattle.card.specs.Reply.{madeBy};
+
+// How many bytes of a title are kept: all, or none where it is refused.
+fn kept_length(refusal: u8, len: usize) -> usize
+    ensures { λ r. ⌜ r ≡ (if refusal == 0 then len else 0) ⌝ }
+{
+    if refusal == 0 {
+        return len;
+    }
+    0
+}
 
 // The card with a title of at most 20 bytes on which no call was made.
 fn made(title: &[u8]) -> Card
     requires { ⌜ length (now title) ≤ 20 ⌝ }
     ensures { λ r. ⌜ r ≡ stored (fresh document (now (title .entry))) ⌝ }
 {
-    let applets = registry::no_applets();
+    let roll = applets::no_roll();
     let rows = menu::no_rows();
     let bank = Bank {
         owner: [0; Bank::TIMERS],
     };
     let held = writing::held_title(title);
+    let due = Due {
+        menu: false,
+        events: false,
+    };
     let desk = Desk {
-        title: held,
-        title_len: title.len() as u8,
-        profile: [0; Desk::PROFILE],
+        due,
         session: false,
         outstanding: false,
-        menu_due: false,
-        events_due: false,
+        title_len: title.len() as u8,
+        title: held,
+        profile: [0; Desk::PROFILE],
     };
     Card {
-        applets,
+        roll,
+        selectable: 0,
+        registered: [0; Kind::EVENTS],
+        made: [0; Roll::APPLETS],
+        control: 0,
         rows,
         bank,
-        control: 0,
         desk,
     }
 }
@@ -47,17 +67,9 @@ impl Card {
         ensures { λ r. ⌜ r ≡ madeBy (freshCard document (now (title .entry))) ⌝ }
     {
         let refusal = refusals::title_refusal(title);
-        if refusal != 0 {
-            let card = made(&title[..0]);
-            return Changed {
-                card,
-                answer: Done::Refused(refusal),
-            };
-        }
-        let card = made(title);
-        Changed {
-            card,
-            answer: Done::Accepted,
-        }
+        let n = kept_length(refusal, title.len());
+        let card = made(&title[..n]);
+        let answer = done_of(refusal);
+        Changed { card, answer }
     }
 }

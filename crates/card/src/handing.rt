@@ -1,61 +1,90 @@
 // Handing out: the command that is due, the menu first and then the event list, at the front of a lent buffer.
+// The card is left as it will be before the first byte is written.
 use crate::Card;
 use crate::Numbered;
-use rules::Given;
+use crate::given_of;
+use rules::Desk;
+use rules::Kind;
+use rules::Rows;
 ghost use Prim.Native.Nat.{_<_, _≤_};
 ghost use mathlib.Core.Path.{_≡_};
-ghost use lib.ListN.{length};
-ghost use Rattle.rules.specs.Desk.{dueCommand};
+ghost use mathlib.Core.Bool.{not, _&&_};
+ghost use lib.ListN.{length, take};
+ghost use Rattle.lists.specs.Tests.{_==_};
+ghost use Rattle.lists.specs.Wrote.{Wrote};
+ghost use Rattle.rules.specs.Events.{codes, firstDownload};
+ghost use Rattle.rules.specs.Commands.{menuOf, menuBytes, eventBytes};
 ghost use Rattle.rules.specs.Calls.{systemCommand};
 ghost use Rattle.rules.specs.Step.{step};
-ghost use Rattle.lists.specs.Wrote.{Wrote};
+ghost use Rattle.command.specs.Fits.{Fits, shownOf};
+ghost use Rattle.downloads.specs.Listed.{codesFrom};
+ghost use Rattle.downloads.specs.Turns.{isListened};
 ghost use Rattle.card.specs.View.{view, Left};
 ghost use Rattle.card.specs.Reply.{numberedBy};
 
-impl Card {
-    // Writes the command that is due; how many bytes it has.
-    fn put_due(self, buf: &mut [u8]) -> usize
-        requires { ⌜ Left self × (256 ≤ length (now buf)) ⌝ }
-        ensures { λ r. ⌜ Wrote (now (buf .entry)) 0 (dueCommand (view self .tables) (view self .desk)) (now (buf .exit)) r × (r < 256) ⌝ }
-    {
-        let applets = self.applets;
-        let desk = self.desk;
-        if desk.menu_due {
-            let rows = self.rows;
-            let able = display::selectables(applets);
-            let shown = display::shown_rows(rows, able);
-            let title = desk.title;
-            let len = desk.title_len as usize;
-            return command::write_menu(buf, &title[..len], shown);
+// Whether a matter is handed out: the call is accepted, nothing before it is due, and it is.
+fn is_handed(refusal: u8, before: bool, due: bool) -> bool
+    ensures { λ r. ⌜ r ≡ (refusal == 0 && (not before && due)) ⌝ }
+{
+    if refusal == 0 {
+        if before {
+            return false;
         }
-        if desk.events_due {
-            let codes = display::shown_codes(applets);
-            let at = codes.at;
-            let n = codes.count as usize;
-            return command::write_events(buf, &at[..n]);
-        }
-        0
+        return due;
     }
+    false
+}
 
+// Writes the menu of the shown rows; how many bytes it has.
+fn put_menu(buf: &mut [u8], title: [u8; Desk::TITLE], len: u8, rows: Rows, selectable: u8) -> usize
+    requires { ⌜ Fits rows × (len ≤ 20) × (256 ≤ length (now buf)) ⌝ }
+    ensures { λ r. ⌜ Wrote (now (buf .entry)) 0 (menuBytes (menuOf (take len title) (shownOf selectable rows))) (now (buf .exit)) r × (r < 256) ⌝ }
+{
+    let n = len as usize;
+    command::write_menu(buf, &title[..n], rows, selectable)
+}
+
+// Writes the list of the shown events; how many bytes it has.
+fn put_events(buf: &mut [u8], registered: [u8; Kind::EVENTS], selectable: u8) -> usize
+    requires { ⌜ 256 ≤ length (now buf) ⌝ }
+    ensures { λ r. ⌜ Wrote (now (buf .entry)) 0 (eventBytes (codesFrom (isListened registered selectable) firstDownload codes)) (now (buf .exit)) r × (r < 256) ⌝ }
+{
+    let shown = downloads::shown_codes(registered, selectable);
+    let at = shown.at;
+    let n = shown.count as usize;
+    command::write_events(buf, &at[..n])
+}
+
+impl Card {
     // Hands out the command that is due; its length, or 0 where nothing is due.
     pub fn system_command(self, buf: &mut [u8]) -> Numbered
         requires { ⌜ Left self ⌝ }
         ensures { λ r. ⌜ (r ≡ numberedBy (step (view self) (systemCommand (now (buf .entry))))) × (now (buf .exit) ≡ step (view self) (systemCommand (now (buf .entry))) .buffer) ⌝ }
     {
-        let desk = self.desk;
-        let refusal = refusals::hand_refusal(desk.outstanding, buf.len());
-        if refusal != 0 {
-            return Numbered {
-                card: self,
-                answer: Given::Refused(refusal),
-            };
-        }
-        let n = self.put_due(buf);
         let mut left = self;
-        left.desk = parts::handed_out(desk);
-        Numbered {
-            card: left,
-            answer: Given::Number(n as u8),
+        let was = left.desk.outstanding;
+        let menu_due = left.desk.due.menu;
+        let events_due = left.desk.due.events;
+        let refusal = refusals::hand_refusal(was, buf.len());
+        let menu = is_handed(refusal, false, menu_due);
+        let events = is_handed(refusal, menu_due, events_due);
+        let menu_left = menu_due & !menu;
+        let events_left = events_due & !events;
+        let outstanding = was | menu | events;
+        left.desk.due.menu = menu_left;
+        left.desk.due.events = events_left;
+        left.desk.outstanding = outstanding;
+        let mut n: usize = 0;
+        if menu {
+            let title = left.desk.title;
+            let rows = left.rows;
+            n = put_menu(buf, title, left.desk.title_len, rows, left.selectable);
         }
+        if events {
+            let registered = left.registered;
+            n = put_events(buf, registered, left.selectable);
+        }
+        let answer = given_of(refusal, n as u8);
+        Numbered { card: left, answer }
     }
 }

@@ -1,29 +1,40 @@
 // The card by value, and every public call of document 01 as a method that hands the card back with the answer.
 // A call takes every input; of the card it takes for granted that a fresh card and calls have left it so.
-mod admin;
-mod arrivals;
+mod arriving;
 mod entries;
 mod fresh;
 mod handing;
+mod installing;
+mod locking;
 mod proactive;
 mod registering;
+mod removing;
 mod timing;
 
-use rules::Applets;
+ghost use mathlib.Core.Path.{_≡_};
+ghost use mathlib.Core.Bool.{_&&_, _||_};
+ghost use Rattle.lists.specs.Tests.{if_then_else_, _==_};
+ghost use Rattle.rules.specs.Calls.{only, numbered};
+ghost use Rattle.card.specs.Reply.{doneOf, givenOf};
 use rules::Bank;
 use rules::Called;
 use rules::Desk;
 use rules::Done;
 use rules::Given;
+use rules::Kind;
+use rules::Roll;
 use rules::Rows;
 use rules::Told;
 
 #[repr(C)]
 pub struct Card {
-    pub applets: Applets,
+    pub roll: Roll,
+    pub selectable: u8,
+    pub registered: [u8; Kind::EVENTS],
+    pub made: [u8; Roll::APPLETS],
+    pub control: u8,
     pub rows: Rows,
     pub bank: Bank,
-    pub control: u8,
     pub desk: Desk,
 }
 
@@ -49,4 +60,37 @@ pub struct Asked {
 pub struct Arrived {
     pub card: Card,
     pub answer: Called,
+}
+
+// The answer of a call that only does something.
+fn done_of(refusal: u8) -> Done
+    ensures { λ r. ⌜ r ≡ doneOf (only refusal) ⌝ }
+{
+    if refusal == 0 {
+        return Done::Accepted;
+    }
+    Done::Refused(refusal)
+}
+
+// The answer of a call that gives a number.
+fn given_of(refusal: u8, number: u8) -> Given
+    ensures { λ r. ⌜ r ≡ givenOf (if refusal == 0 then numbered number else only refusal) ⌝ }
+{
+    if refusal == 0 {
+        return Given::Number(number);
+    }
+    Given::Refused(refusal)
+}
+
+// A mark after a call: in a session, what changes is due.
+fn due_after(session: bool, due: bool, turns: bool) -> bool
+    ensures { λ r. ⌜ r ≡ (session && turns || due) ⌝ }
+{
+    if session {
+        if turns {
+            return true;
+        }
+        return due;
+    }
+    due
 }

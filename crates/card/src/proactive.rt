@@ -1,12 +1,23 @@
-// The calls about proactive commands.
+// The calls about proactive commands. Each has one way through: a refused call stores what was there.
 use crate::Card;
 use crate::Changed;
-use rules::Done;
+use crate::done_of;
 ghost use mathlib.Core.Path.{_≡_};
+ghost use Rattle.lists.specs.Tests.{if_then_else_, _==_};
 ghost use Rattle.rules.specs.Calls.{proactive, send, response};
 ghost use Rattle.rules.specs.Step.{step};
 ghost use Rattle.card.specs.View.{view, Left};
 ghost use Rattle.card.specs.Reply.{changedBy};
+
+// Whether a command is outstanding after a call that makes it so, or not so, where it is accepted.
+fn outstanding_after(refusal: u8, was: bool, is: bool) -> bool
+    ensures { λ r. ⌜ r ≡ (if refusal == 0 then is else was) ⌝ }
+{
+    if refusal == 0 {
+        return is;
+    }
+    was
+}
 
 impl Card {
     // Sends a command of an applet, which is then outstanding.
@@ -15,24 +26,15 @@ impl Card {
         ensures { λ r. ⌜ r ≡ changedBy (step (view self) (proactive (send applet (now (bytes .entry))))) ⌝ }
     {
         let command = envelopes::read_command(bytes);
-        let applets = self.applets;
-        let looked = registry::look(applets, applet);
-        let bank = self.bank;
-        let mut desk = self.desk;
-        let refusal = refusals::send_refusal(command, applet, looked.there, bank, desk.outstanding);
-        if refusal == 0 {
-            desk.outstanding = true;
-            let mut left = self;
-            left.desk = desk;
-            return Changed {
-                card: left,
-                answer: Done::Accepted,
-            };
-        }
-        Changed {
-            card: self,
-            answer: Done::Refused(refusal),
-        }
+        let mut left = self;
+        let there = sets::has(left.roll.present, applet);
+        let bank = left.bank;
+        let was = left.desk.outstanding;
+        let refusal = refusals::send_refusal(command, applet, there, bank, was);
+        let is = outstanding_after(refusal, was, true);
+        left.desk.outstanding = is;
+        let answer = done_of(refusal);
+        Changed { card: left, answer }
     }
 
     // Ends the outstanding command.
@@ -40,20 +42,12 @@ impl Card {
         requires { ⌜ Left self ⌝ }
         ensures { λ r. ⌜ r ≡ changedBy (step (view self) (proactive response)) ⌝ }
     {
-        let mut desk = self.desk;
-        let refusal = refusals::response_refusal(desk.outstanding);
-        if refusal == 0 {
-            desk.outstanding = false;
-            let mut left = self;
-            left.desk = desk;
-            return Changed {
-                card: left,
-                answer: Done::Accepted,
-            };
-        }
-        Changed {
-            card: self,
-            answer: Done::Refused(refusal),
-        }
+        let mut left = self;
+        let was = left.desk.outstanding;
+        let refusal = refusals::response_refusal(was);
+        let is = outstanding_after(refusal, was, false);
+        left.desk.outstanding = is;
+        let answer = done_of(refusal);
+        Changed { card: left, answer }
     }
 }

@@ -1,87 +1,96 @@
-// The calls about registrations for events.
+// The calls about registrations for events. Each has one way through: a refused call stores what was there.
 use crate::Asked;
 use crate::Card;
 use crate::Changed;
-use rules::Desk;
-use rules::Done;
+use crate::done_of;
+use crate::due_after;
 use rules::Kind;
 use rules::Told;
 ghost use mathlib.Core.Path.{_≡_};
+ghost use Rattle.lists.specs.Tests.{if_then_else_, _==_};
+ghost use Rattle.rules.specs.declared.Told.the-variants.{Yes, No, Refused};
 ghost use Rattle.rules.specs.Calls.{event, setEvent, clearEvent, askEvent};
 ghost use Rattle.rules.specs.Step.{step};
 ghost use Rattle.card.specs.View.{view, Left};
 ghost use Rattle.card.specs.Reply.{changedBy, askedBy};
-ghost use Rattle.card.specs.Turns.{registrationRefusal, TurnsEvent};
+ghost use Rattle.card.specs.Turns.{setAfter, ownerAfter, isListed};
 
-// What two calls need to know before a registration is turned.
-struct EventTurned {
-    desk: Desk,
-    place: u8,
-    refusal: u8,
+// The answer of a question.
+fn told_of(refusal: u8, says: bool) -> Told
+    ensures { λ r. ⌜ r ≡ (if refusal == 0 then (if says then Yes else No) else Refused refusal) ⌝ }
+{
+    if refusal == 0 {
+        if says {
+            return Told::Yes;
+        }
+        return Told::No;
+    }
+    Told::Refused(refusal)
 }
 
-// The refusal of set event, which turns a registration on, or of clear event.
-fn turn_refusal(there: bool, kind: Kind, control: u8, applet: u8, on: bool) -> u8
-    ensures { λ r. ⌜ r ≡ registrationRefusal there kind control applet on ⌝ }
+// The set of the event's place after the call.
+fn set_after(refusal: u8, place: u8, set: u8, applet: u8, on: bool) -> u8
+    ensures { λ r. ⌜ r ≡ setAfter refusal place set applet on ⌝ }
 {
-    if on {
-        return refusals::refusal_to_set(there, kind, control, applet);
+    if refusal == 0 {
+        if place == Kind::CALL_CONTROL {
+            return set;
+        }
+        return sets::turned(set, applet, on);
     }
-    refusals::refusal_for(there, kind)
+    set
+}
+
+// The owner of call control after the call.
+fn owner_after(refusal: u8, place: u8, owner: u8, applet: u8, on: bool) -> u8
+    ensures { λ r. ⌜ r ≡ ownerAfter refusal place owner applet on ⌝ }
+{
+    if refusal == 0 {
+        if place == Kind::CALL_CONTROL {
+            if on {
+                return applet;
+            }
+            return timers::forgotten(owner, applet);
+        }
+        return owner;
+    }
+    owner
+}
+
+// Whether an applet is registered, by the set of the event's place and the owner of call control.
+fn is_listed(place: u8, set: u8, control: u8, applet: u8) -> bool
+    ensures { λ r. ⌜ r ≡ isListed place set control applet ⌝ }
+{
+    if place == Kind::CALL_CONTROL {
+        return control == applet;
+    }
+    sets::has(set, applet)
 }
 
 impl Card {
-    // The refusal of a call that registers the applet for an event, or ends its registration, the event's place, and the desk after it.
-    fn turn_event(self, applet: u8, value: i16, on: bool) -> EventTurned
-        requires { ⌜ Left self ⌝ }
-        ensures { λ r. ⌜ TurnsEvent self applet value on (r .desk) (r .place) (r .refusal) ⌝ }
-    {
-        let applets = self.applets;
-        let desk = self.desk;
-        let looked = registry::look(applets, applet);
-        let kind = events::kind_of(value);
-        let refusal = turn_refusal(looked.there, kind, self.control, applet, on);
-        let place = events::place_of(kind);
-        let turns = due::event_turns(applets, looked.applet, place, on);
-        let due = due::marked(desk, false, turns);
-        EventTurned {
-            desk: due,
-            place,
-            refusal,
-        }
-    }
-
     // Registers an applet for an event.
     pub fn set_event(self, applet: u8, value: i16) -> Changed
         requires { ⌜ Left self ⌝ }
         ensures { λ r. ⌜ r ≡ changedBy (step (view self) (event (setEvent applet value))) ⌝ }
     {
-        let turned = self.turn_event(applet, value, true);
-        let refusal = turned.refusal;
-        if refusal != 0 {
-            return Changed {
-                card: self,
-                answer: Done::Refused(refusal),
-            };
-        }
-        let place = turned.place;
         let mut left = self;
-        if place == Kind::CALL_CONTROL {
-            left.control = applet;
-            return Changed {
-                card: left,
-                answer: Done::Accepted,
-            };
-        }
-        let applets = self.applets;
-        let next = altered::registered(applets, applet, place, true);
-        let due = turned.desk;
-        left.applets = next;
-        left.desk = due;
-        Changed {
-            card: left,
-            answer: Done::Accepted,
-        }
+        let kind = events::kind_of(value);
+        let there = sets::has(left.roll.present, applet);
+        let refusal = refusals::refusal_to_set(there, kind, left.control, applet);
+        let place = events::place_of(kind);
+        let p = place as usize;
+        let mut registered = left.registered;
+        let was = registered[p];
+        let is = set_after(refusal, place, was, applet, true);
+        let turns = downloads::events_turn(place, was, is, left.selectable);
+        let control = owner_after(refusal, place, left.control, applet, true);
+        let events_due = due_after(left.desk.session, left.desk.due.events, turns);
+        registered[p] = is;
+        left.registered = registered;
+        left.control = control;
+        left.desk.due.events = events_due;
+        let answer = done_of(refusal);
+        Changed { card: left, answer }
     }
 
     // Ends an applet's registration for an event.
@@ -89,32 +98,24 @@ impl Card {
         requires { ⌜ Left self ⌝ }
         ensures { λ r. ⌜ r ≡ changedBy (step (view self) (event (clearEvent applet value))) ⌝ }
     {
-        let turned = self.turn_event(applet, value, false);
-        let refusal = turned.refusal;
-        if refusal != 0 {
-            return Changed {
-                card: self,
-                answer: Done::Refused(refusal),
-            };
-        }
-        let place = turned.place;
         let mut left = self;
-        if place == Kind::CALL_CONTROL {
-            left.control = timers::forgotten(self.control, applet);
-            return Changed {
-                card: left,
-                answer: Done::Accepted,
-            };
-        }
-        let applets = self.applets;
-        let next = altered::registered(applets, applet, place, false);
-        let due = turned.desk;
-        left.applets = next;
-        left.desk = due;
-        Changed {
-            card: left,
-            answer: Done::Accepted,
-        }
+        let kind = events::kind_of(value);
+        let there = sets::has(left.roll.present, applet);
+        let refusal = refusals::refusal_for(there, kind);
+        let place = events::place_of(kind);
+        let p = place as usize;
+        let mut registered = left.registered;
+        let was = registered[p];
+        let is = set_after(refusal, place, was, applet, false);
+        let turns = downloads::events_turn(place, was, is, left.selectable);
+        let control = owner_after(refusal, place, left.control, applet, false);
+        let events_due = due_after(left.desk.session, left.desk.due.events, turns);
+        registered[p] = is;
+        left.registered = registered;
+        left.control = control;
+        left.desk.due.events = events_due;
+        let answer = done_of(refusal);
+        Changed { card: left, answer }
     }
 
     // Whether an applet is registered for an event.
@@ -122,27 +123,15 @@ impl Card {
         requires { ⌜ Left self ⌝ }
         ensures { λ r. ⌜ r ≡ askedBy (step (view self) (event (askEvent applet value))) ⌝ }
     {
-        let applets = self.applets;
-        let looked = registry::look(applets, applet);
         let kind = events::kind_of(value);
-        let refusal = refusals::refusal_for(looked.there, kind);
-        if refusal != 0 {
-            return Asked {
-                card: self,
-                answer: Told::Refused(refusal),
-            };
-        }
+        let there = sets::has(self.roll.present, applet);
+        let refusal = refusals::refusal_for(there, kind);
         let place = events::place_of(kind);
-        let is = parts::is_registered(looked.applet, self.control, place);
-        if is {
-            return Asked {
-                card: self,
-                answer: Told::Yes,
-            };
-        }
-        Asked {
-            card: self,
-            answer: Told::No,
-        }
+        let p = place as usize;
+        let registered = self.registered;
+        let set = registered[p];
+        let says = is_listed(place, set, self.control, applet);
+        let answer = told_of(refusal, says);
+        Asked { card: self, answer }
     }
 }

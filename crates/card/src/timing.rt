@@ -1,14 +1,23 @@
-// The calls about timers.
+// The calls about timers. An applet that is not there is to the bank an owner of nothing, and so refused.
 use crate::Card;
 use crate::Changed;
 use crate::Numbered;
-use rules::Done;
-use rules::Given;
 ghost use mathlib.Core.Path.{_≡_};
+ghost use Rattle.lists.specs.Tests.{if_then_else_};
 ghost use Rattle.rules.specs.Calls.{timer as timer-call, allocate, release};
 ghost use Rattle.rules.specs.Step.{step};
 ghost use Rattle.card.specs.View.{view, Left};
 ghost use Rattle.card.specs.Reply.{changedBy, numberedBy};
+
+// The applet as an owner of timers: its number, or 0 where there is no such applet.
+fn owner_for(there: bool, applet: u8) -> u8
+    ensures { λ r. ⌜ r ≡ (if there then applet else 0) ⌝ }
+{
+    if there {
+        return applet;
+    }
+    0
+}
 
 impl Card {
     // Gives the applet the lowest free timer.
@@ -16,22 +25,17 @@ impl Card {
         requires { ⌜ Left self ⌝ }
         ensures { λ r. ⌜ r ≡ numberedBy (step (view self) (timer-call (allocate applet))) ⌝ }
     {
-        let applets = self.applets;
-        let looked = registry::look(applets, applet);
-        if looked.there {
-            let owner = looked.applet;
-            let bank = self.bank;
-            let allocated = timers::allocate(bank, applet, owner.timers);
-            let next = allocated.bank;
-            let answer = allocated.answer;
-            let mut left = self;
-            left.bank = next;
-            return Numbered { card: left, answer };
-        }
-        Numbered {
-            card: self,
-            answer: Given::Refused(2),
-        }
+        let mut left = self;
+        let there = sets::has(left.roll.present, applet);
+        let owner = owner_for(there, applet);
+        let grants = left.roll.grants;
+        let grant = applets::grant_at(grants, applet);
+        let bank = left.bank;
+        let allocated = timers::allocate(bank, owner, grant.timers);
+        let next = allocated.bank;
+        let answer = allocated.answer;
+        left.bank = next;
+        Numbered { card: left, answer }
     }
 
     // Frees a timer of the applet.
@@ -39,20 +43,14 @@ impl Card {
         requires { ⌜ Left self ⌝ }
         ensures { λ r. ⌜ r ≡ changedBy (step (view self) (timer-call (release applet timer))) ⌝ }
     {
-        let applets = self.applets;
-        let looked = registry::look(applets, applet);
-        if looked.there {
-            let bank = self.bank;
-            let released = timers::release(bank, applet, timer);
-            let next = released.bank;
-            let answer = released.answer;
-            let mut left = self;
-            left.bank = next;
-            return Changed { card: left, answer };
-        }
-        Changed {
-            card: self,
-            answer: Done::Refused(2),
-        }
+        let mut left = self;
+        let there = sets::has(left.roll.present, applet);
+        let owner = owner_for(there, applet);
+        let bank = left.bank;
+        let released = timers::release(bank, owner, timer);
+        let next = released.bank;
+        let answer = released.answer;
+        left.bank = next;
+        Changed { card: left, answer }
     }
 }

@@ -2,13 +2,18 @@
 -- Assumes nothing.
 use Prim.Native.Nat.{ℕ, zero, suc, _+_, _*_, _≤_, _<_}
 use native.Mathlib.Omega.{arith}
-use native.Mathlib.Numerals.{add-one}
 use mathlib.Core.Path.{_≡_, refl, sym, ap, _∙_}
-use mathlib.Core.Bool.{Bool, false}
+use mathlib.Core.Bool.{Bool, true, false, _||_}
 use mathlib.Core.List.{List, [], _∷_, _++_, map, append-assoc, append-nil}
 use lib.ListN.{length, take, getD, length-append, List·getD-map}
-use lib.Seq.{take-suc, take-all}
-use Rattle.lists.specs.Lists.{Every, some?, gather, empty?}
+use lib.Seq.{take-all}
+use borrow.Author.Tests.{eqb-true, eqb-false}
+use Rattle.lists.specs.Tests.{if_then_else_, _==_}
+use Rattle.lists.specs.Lists.{Every, some?, keep, gather, empty?}
+use Rattle.lists.proofs.Truth.{or-false}
+use Rattle.lists.proofs.Every.{every-so, every-keep}
+use Rattle.lists.proofs.Firsts.{some-append}
+use Rattle.lists.proofs.Keep.{keep-yes, keep-no, length-keep}
 use Rattle.lists.proofs.Padded.{take-padded, get-padded, length-padded, getD-any}
 use Rattle.lists.proofs.Mapped.{map-length, map-append}
 use Rattle.rules.specs.declared.Row as held
@@ -16,8 +21,9 @@ use Rattle.rules.specs.declared.Rows.{Rows}
 use Rattle.rules.specs.Holds.{Row}
 use Rattle.rules.specs.Held.{viewRow, storedRow, noRow, viewRows}
 use Rattle.rules.specs.Commands.{Item, itemBytes, itemsBytes}
-use Rattle.menu.proofs.Tidy.{blank, at-is, count-is, some-viewed}
-use Rattle.command.specs.Fits.{itemOf, itemsOf, rowsBytes, Short, Fits}
+use Rattle.menu.proofs.Tidy.{blank, at-is, count-is, row-back}
+use Rattle.screen.specs.Asked.{isShown}
+use Rattle.command.specs.Fits.{itemOf, itemsOf, rowsBytes, Short, Fits, shownOf}
 
 -- P holds at each place of the list
 every-at : {A : Type 0} (P : A → Type 0) (l : List A) (i : ℕ) (d : A) → i < length l → Every P l → P (getD l i d)
@@ -36,22 +42,23 @@ rows-snoc : (l : List Row) (r : Row) → rowsBytes (l ++ r ∷ []) ≡ rowsBytes
 unfolding rowsBytes gather
 rows-snoc l r = rw (map-append itemOf l (r ∷ []), gather-append itemBytes (itemsOf l) (itemOf r ∷ [])) (ap (λ (k : List ℕ). gather itemBytes (itemsOf l) ++ k) (append-nil (itemBytes (itemOf r))))
 
-rows-more : (l : List Row) (i : ℕ) (d : Row) → i < length l → rowsBytes (take (i + 1) l) ≡ rowsBytes (take i l) ++ itemBytes (itemOf (getD l i d))
-rows-more l i d h = rw (add-one, take-suc l i d h, rows-snoc) refl
-
 length-item : (x : Item) → length (itemBytes x) ≡ 3 + length (x .text)
 unfolding itemBytes
 length-item x = omega arith
 
--- the first i rows take no more than all, and a row at most 18 bytes
-pub rows-part : (l : List Row) (i : ℕ) → length (rowsBytes (take i l)) ≤ length (rowsBytes l)
-unfolding rowsBytes gather
-rows-part [] zero = omega arith
-rows-part [] (suc i) = omega arith
-rows-part (x ∷ l) zero = omega arith
-rows-part (x ∷ l) (suc i) = omega (arith, rows-part l i, length-append (itemBytes (itemOf x)) (rowsBytes l), length-append (itemBytes (itemOf x)) (rowsBytes (take i l)))
+-- those kept of the first i rows take no more than all that are kept, and a row at most 18 bytes
+pub rows-part : (p : Row → Bool) (l : List Row) (i : ℕ) → length (rowsBytes (keep p (take i l))) ≤ length (rowsBytes (keep p l))
+unfolding rowsBytes gather keep
+rows-part p [] zero = omega arith
+rows-part p [] (suc i) = omega arith
+rows-part p (x ∷ l) zero = omega arith
+rows-part p (x ∷ l) (suc i) = go (p x) (rows-part p l i)
+  where
+    go : (b : Bool) → length (rowsBytes (keep p (take i l))) ≤ length (rowsBytes (keep p l)) → length (rowsBytes (if b then x ∷ keep p (take i l) else keep p (take i l))) ≤ length (rowsBytes (if b then x ∷ keep p l else keep p l))
+    go true h = omega (arith, length-append (itemBytes (itemOf x)) (rowsBytes (keep p l)), length-append (itemBytes (itemOf x)) (rowsBytes (keep p (take i l))))
+    go false h = h
 
-pub rows-most : (l : List Row) → Every Short l → length (rowsBytes l) ≤ 18 * length l
+rows-most : (l : List Row) → Every Short l → length (rowsBytes l) ≤ 18 * length l
 unfolding rowsBytes gather Every
 rows-most [] a = omega arith
 rows-most (x ∷ l) a = omega (arith, rows-most l (a .1), length-append (itemBytes (itemOf x)) (rowsBytes l), length-item (itemOf x), a .0)
@@ -59,11 +66,6 @@ rows-most (x ∷ l) a = omega (arith, rows-most l (a .1), length-append (itemByt
 -- what a read behind the end of the array would give
 abbrev pub noHeld : held.Row
 noHeld = record { identifier = 0; owner = 0; help = false; enabled = false; text = []; len = 0 }
-
--- that some row has help is seen in the array
-pub help-viewed : (s : Rows) {b : Bool} → b ≡ some? (λ (x : held.Row). x .help) (take (s .count) (s .at)) → b ≡ some? (λ (r : Row). r .help) (viewRows s)
-unfolding viewRow
-help-viewed s e = e ∙ some-viewed s (λ (r : Row). r .help)
 
 -- rows in their one form: what stands at a place of the array
 module _ (s : Rows) (fits : Fits s) where
@@ -94,39 +96,85 @@ module _ (s : Rows) (fits : Fits s) where
   unfolding storedRow
   text-at i h = rw (row-at i h) (ap length (take-padded 15 0 (getD l i noRow .text)))
 
-  pub rows-next : (i : ℕ) → i < s .count → rowsBytes (take (i + 1) l) ≡ rowsBytes (take i l) ++ itemBytes (record { identifier = getD (s .at) i noHeld .identifier; text = take (getD (s .at) i noHeld .len) (getD (s .at) i noHeld .text) })
-  unfolding storedRow
-  rows-next i h =
-      rows-more l i noRow (omega (arith, count-is s (fits .tidy)))
-      ∙ rw (row-at i h, take-padded 15 0 (getD l i noRow .text)) refl
+  -- the rows that are shown, by a set
+  module _ (set : ℕ) where
+    abbrev done : ℕ → List Row
+    done i = keep (isShown set) (take i l)
 
-  pub rows-step : (i : ℕ) → i < s .count → length (rowsBytes (take (i + 1) l)) ≡ length (rowsBytes (take i l)) + (3 + getD (s .at) i noHeld .len)
-  rows-step i h = omega (arith, ap length (rows-next i h), length-append (rowsBytes (take i l)) (itemBytes (record { identifier = getD (s .at) i noHeld .identifier; text = take (getD (s .at) i noHeld .len) (getD (s .at) i noHeld .text) })), length-item (record { identifier = getD (s .at) i noHeld .identifier; text = take (getD (s .at) i noHeld .len) (getD (s .at) i noHeld .text) }), text-at i h)
+    abbrev itemAt : ℕ → Item
+    itemAt i = record { identifier = getD (s .at) i noHeld .identifier; text = take (getD (s .at) i noHeld .len) (getD (s .at) i noHeld .text) }
 
-  pub rows-whole : (i : ℕ) → s .count ≤ i → rowsBytes (take i l) ≡ rowsBytes l
-  rows-whole i h = ap rowsBytes (take-all i l (omega (arith, count-is s (fits .tidy))))
+    shown-at : (i : ℕ) {b : Bool} → i < s .count → isShown set (viewRow (getD (s .at) i noHeld)) ≡ b → isShown set (getD l i noRow) ≡ b
+    shown-at i h e = ap (isShown set) (sym (row-back (getD l i noRow)) ∙ ap viewRow (sym (row-at i h))) ∙ e
 
-  pub rows-under : length (rowsBytes l) ≤ 216
-  rows-under = omega (arith, rows-most l (fits .short), count-is s (fits .tidy), fits .tidy .few)
+    within : (i : ℕ) → i < s .count → i < length l
+    within i h = omega (arith, count-is s (fits .tidy))
 
-  -- the items: none, or those of the rows
-  pub items-none : s .count ≡ 0 → itemsBytes (itemsOf l) ≡ 0x8F ∷ 0x00 ∷ []
-  items-none z = none l (sym (count-is s (fits .tidy)) ∙ z)
-    where
-      none : (l : List Row) → length l ≡ 0 → itemsBytes (itemsOf l) ≡ 0x8F ∷ 0x00 ∷ []
-      none [] e = unfold itemsBytes empty? in refl
-      none (r ∷ l) e = absurd (omega arith)
+    done-yes : (i : ℕ) → i < s .count → isShown set (viewRow (getD (s .at) i noHeld)) ≡ true → done (i + 1) ≡ done i ++ (getD l i noRow ∷ [])
+    done-yes i h e = keep-yes (isShown set) l i noRow (within i h) (shown-at i h e)
 
-  pub items-some : (s .count ≡ 0 → ⊥) → itemsBytes (itemsOf l) ≡ rowsBytes l
-  items-some z = some l (λ e. z (count-is s (fits .tidy) ∙ e))
-    where
-      some : (l : List Row) → (length l ≡ 0 → ⊥) → itemsBytes (itemsOf l) ≡ rowsBytes l
-      some [] e = absurd (e refl)
-      some (r ∷ l) e = unfold itemsBytes empty? rowsBytes in refl
+    -- one row more is looked at, and it is shown, or not
+    pub rows-next : (i : ℕ) → i < s .count → isShown set (viewRow (getD (s .at) i noHeld)) ≡ true → rowsBytes (done (i + 1)) ≡ rowsBytes (done i) ++ itemBytes (itemAt i)
+    unfolding storedRow
+    rows-next i h e = ap rowsBytes (done-yes i h e) ∙ rows-snoc (done i) (getD l i noRow) ∙ rw (row-at i h, take-padded 15 0 (getD l i noRow .text)) refl
 
-  pub items-under : length (itemsBytes (itemsOf l)) ≤ 216
-  items-under = go (s .count) refl
-    where
-      go : (n : ℕ) → s .count ≡ n → length (itemsBytes (itemsOf l)) ≤ 216
-      go zero e = omega (arith, ap length (items-none e))
-      go (suc n) e = omega (arith, ap length (items-some (λ z. omega arith)), rows-under)
+    pub rows-same : (i : ℕ) → i < s .count → isShown set (viewRow (getD (s .at) i noHeld)) ≡ false → done (i + 1) ≡ done i
+    rows-same i h e = keep-no (isShown set) l i noRow (within i h) (shown-at i h e)
+
+    pub rows-step : (i : ℕ) → i < s .count → isShown set (viewRow (getD (s .at) i noHeld)) ≡ true → length (rowsBytes (done (i + 1))) ≡ length (rowsBytes (done i)) + (3 + getD (s .at) i noHeld .len)
+    rows-step i h e = omega (arith, ap length (rows-next i h e), length-append (rowsBytes (done i)) (itemBytes (itemAt i)), length-item (itemAt i), text-at i h)
+
+    pub help-next : (i : ℕ) → i < s .count → isShown set (viewRow (getD (s .at) i noHeld)) ≡ true → some? (λ (r : Row). r .help) (done (i + 1)) ≡ (some? (λ (r : Row). r .help) (done i) || getD (s .at) i noHeld .help)
+    unfolding storedRow some?
+    help-next i h e =
+        ap (some? (λ (r : Row). r .help)) (done-yes i h e)
+        ∙ some-append (λ (r : Row). r .help) (done i) (getD l i noRow ∷ [])
+        ∙ rw (row-at i h, or-false (getD l i noRow .help)) refl
+
+    -- a loop that has measured the shown of the first i rows
+    pub record Measured (i bytes : ℕ) (help : Bool) : Type 0 where
+      pub size : bytes ≡ length (rowsBytes (done i))
+      pub mark : help ≡ some? (λ (r : Row). r .help) (done i)
+
+    pub measured-none : Measured 0 0 false
+    unfolding rowsBytes gather keep some?
+    measured-none = record { size = refl; mark = refl }
+
+    pub measured-yes : (i : ℕ) {n : ℕ} {b : Bool} → i < s .count → isShown set (viewRow (getD (s .at) i noHeld)) ≡ true → Measured i n b → Measured (i + 1) (n + (3 + getD (s .at) i noHeld .len)) (b || getD (s .at) i noHeld .help)
+    measured-yes i h e o =
+        record { size = omega (arith, rows-step i h e, o .size); mark = ap (λ (x : Bool). x || getD (s .at) i noHeld .help) (o .mark) ∙ sym (help-next i h e) }
+
+    pub measured-no : (i : ℕ) {n : ℕ} {b : Bool} → i < s .count → isShown set (viewRow (getD (s .at) i noHeld)) ≡ false → Measured i n b → Measured (i + 1) n b
+    measured-no i h e o = record { size = rw (rows-same i h e) (o .size); mark = rw (rows-same i h e) (o .mark) }
+
+    pub rows-whole : (i : ℕ) → s .count ≤ i → done i ≡ shownOf set s
+    rows-whole i h = ap (keep (isShown set)) (take-all i l (omega (arith, count-is s (fits .tidy))))
+
+    pub rows-under : length (rowsBytes (shownOf set s)) ≤ 216
+    rows-under =
+        omega (arith, rows-most (shownOf set s) (every-so _ _ (λ r q. q .0) (shownOf set s) (every-keep Short (isShown set) l (fits .short))), length-keep (isShown set) l, count-is s (fits .tidy), fits .tidy .few)
+
+-- the items: none, or those of the rows
+pub items-none : (l : List Row) → length (rowsBytes l) ≡ 0 → itemsBytes (itemsOf l) ≡ 0x8F ∷ 0x00 ∷ []
+unfolding itemsBytes empty? rowsBytes gather
+items-none [] e = refl
+items-none (r ∷ l) e = absurd (omega (arith, length-append (itemBytes (itemOf r)) (rowsBytes l), length-item (itemOf r)))
+
+pub items-some : (l : List Row) → (length (rowsBytes l) ≡ 0 → ⊥) → itemsBytes (itemsOf l) ≡ rowsBytes l
+unfolding itemsBytes empty? rowsBytes gather
+items-some [] e = absurd (e refl)
+items-some (r ∷ l) e = refl
+
+pub items-length : (l : List Row) → length (itemsBytes (itemsOf l)) ≡ (if length (rowsBytes l) == 0 then 2 else length (rowsBytes l))
+items-length l = go (length (rowsBytes l) == 0) refl
+  where
+    go : (b : Bool) → (length (rowsBytes l) == 0) ≡ b → length (itemsBytes (itemsOf l)) ≡ (if b then 2 else length (rowsBytes l))
+    go true e = ap length (items-none l (eqb-true (length (rowsBytes l)) 0 e))
+    go false e = ap length (items-some l (eqb-false (length (rowsBytes l)) 0 e))
+
+pub items-under : (l : List Row) → length (rowsBytes l) ≤ 216 → length (itemsBytes (itemsOf l)) ≤ 216
+items-under l h = go (length (rowsBytes l) == 0) refl
+  where
+    go : (b : Bool) → (length (rowsBytes l) == 0) ≡ b → length (itemsBytes (itemsOf l)) ≤ 216
+    go true e = omega (arith, ap length (items-none l (eqb-true (length (rowsBytes l)) 0 e)))
+    go false e = omega (arith, ap length (items-some l (eqb-false (length (rowsBytes l)) 0 e)))

@@ -5,13 +5,18 @@ ghost use mathlib.Core.Path.{_≡_};
 ghost use mathlib.Core.List.{_∷_};
 ghost use Prim.Native.Nat.{_+_, _<_, _≤_};
 ghost use lib.ListN.{length};
-ghost use Rattle.lists.specs.Tests.{if_then_else_};
+ghost use Rattle.lists.specs.Tests.{if_then_else_, _==_};
 ghost use Rattle.lists.specs.Lists.{some?};
 ghost use Rattle.rules.specs.Holds.{Row};
-ghost use Rattle.rules.specs.Held.{viewRows, TidyRows};
 ghost use Rattle.rules.specs.Commands.{lengthBytes, itemBytes, itemsBytes, menuOf, menuBytes, eventBytes};
 ghost use Rattle.lists.specs.Wrote.{Wrote};
-ghost use Rattle.command.specs.Fits.{itemsOf, rowsBytes, Fits};
+ghost use Rattle.command.specs.Fits.{itemsOf, rowsBytes, shownOf, Fits};
+
+// What the shown rows come to: the bytes of their items, and the help mark.
+struct Extent {
+    bytes: usize,
+    help: bool,
+}
 
 // D0 and the length of a value of n bytes.
 fn put_length(buf: &mut [u8], n: usize) -> usize
@@ -37,101 +42,92 @@ fn put_item(buf: &mut [u8], at: usize, identifier: u8, text: &[u8]) -> usize
     writing::put(buf, next, text)
 }
 
-// How many bytes the items of the rows take.
-fn rows_length(rows: Rows) -> usize
+// How many bytes the items of the shown rows take, and whether some of them has help.
+fn extent_of(rows: Rows, selectable: u8) -> Extent
     requires { ⌜ Fits rows ⌝ }
-    ensures { λ r. ⌜ r ≡ length (rowsBytes (viewRows rows)) ⌝ }
+    ensures { λ r. ⌜ (r .bytes ≡ length (rowsBytes (shownOf selectable rows))) × (r .help ≡ some? (λ (x : Row). x .help) (shownOf selectable rows)) ⌝ }
 {
     let count = rows.count as usize;
-    let mut n = 0;
+    let mut bytes = 0;
+    let mut help = false;
     let mut i = 0;
     while i < count {
         let row = rows.at[i];
-        n += 3 + row.len as usize;
+        let is = screen::is_shown(row, selectable);
+        if is {
+            bytes += 3 + row.len as usize;
+            help = help | row.help;
+        }
         i += 1;
     }
-    n
+    Extent { bytes, help }
 }
 
-// An item for each row.
-fn put_rows(buf: &mut [u8], at: usize, rows: Rows) -> usize
-    requires { ⌜ Fits rows × (at + length (rowsBytes (viewRows rows)) ≤ length (now buf)) ⌝ }
-    ensures { λ r. ⌜ Wrote (now (buf .entry)) at (rowsBytes (viewRows rows)) (now (buf .exit)) r ⌝ }
+// An item for each shown row.
+fn put_rows(buf: &mut [u8], at: usize, rows: Rows, selectable: u8) -> usize
+    requires { ⌜ Fits rows × (at + length (rowsBytes (shownOf selectable rows)) ≤ length (now buf)) ⌝ }
+    ensures { λ r. ⌜ Wrote (now (buf .entry)) at (rowsBytes (shownOf selectable rows)) (now (buf .exit)) r ⌝ }
 {
     let count = rows.count as usize;
     let mut next = at;
     let mut i = 0;
     while i < count {
         let row = rows.at[i];
-        let text = row.text;
-        let n = row.len as usize;
-        next = put_item(buf, next, row.identifier, &text[..n]);
+        let is = screen::is_shown(row, selectable);
+        if is {
+            let text = row.text;
+            let n = row.len as usize;
+            next = put_item(buf, next, row.identifier, &text[..n]);
+        }
         i += 1;
     }
     next
 }
 
-// The items, or 8F 00 alone where there is no row.
-fn put_items(buf: &mut [u8], at: usize, rows: Rows) -> usize
-    requires { ⌜ Fits rows × (at + length (itemsBytes (itemsOf (viewRows rows))) ≤ length (now buf)) ⌝ }
-    ensures { λ r. ⌜ Wrote (now (buf .entry)) at (itemsBytes (itemsOf (viewRows rows))) (now (buf .exit)) r ⌝ }
+// The items, or 8F 00 alone where they have no byte.
+fn put_items(buf: &mut [u8], at: usize, bytes: usize, rows: Rows, selectable: u8) -> usize
+    requires { ⌜ Fits rows × (bytes ≡ length (rowsBytes (shownOf selectable rows))) × (at + length (itemsBytes (itemsOf (shownOf selectable rows))) ≤ length (now buf)) ⌝ }
+    ensures { λ r. ⌜ Wrote (now (buf .entry)) at (itemsBytes (itemsOf (shownOf selectable rows))) (now (buf .exit)) r ⌝ }
 {
-    if rows.count == 0 {
+    if bytes == 0 {
         let none = [0x8F, 0];
         return writing::put(buf, at, &none);
     }
-    put_rows(buf, at, rows)
+    put_rows(buf, at, rows, selectable)
 }
 
-// Some row has help.
-fn some_help(rows: Rows) -> bool
-    requires { ⌜ TidyRows rows ⌝ }
-    ensures { λ r. ⌜ r ≡ some? (λ (x : Row). x .help) (viewRows rows) ⌝ }
-{
-    let count = rows.count as usize;
-    let mut i = 0;
-    while i < count {
-        let row = rows.at[i];
-        if row.help {
-            return true;
-        }
-        i += 1;
-    }
-    false
-}
-
-// The qualifier: 80 where some row has help.
+// The qualifier: 80 where some shown row has help.
 fn qualifier(help: bool) -> u8
     ensures { λ r. ⌜ r ≡ (if help then 0x80 else 0x00) ⌝ }
 {
     if help { 0x80 } else { 0x00 }
 }
 
-// How many bytes the value of a menu has, with a title of so many.
-fn value_length(title: usize, rows: Rows) -> usize
-    requires { ⌜ Fits rows × (title ≤ 20) ⌝ }
-    ensures { λ r. ⌜ r ≡ 11 + (title + length (itemsBytes (itemsOf (viewRows rows)))) ⌝ }
+// How many bytes the value of a menu has, with a title and items of so many.
+fn value_length(title: usize, bytes: usize) -> usize
+    requires { ⌜ (title ≤ 20) × (bytes ≤ 216) ⌝ }
+    ensures { λ r. ⌜ r ≡ 11 + (title + (if bytes == 0 then 2 else bytes)) ⌝ }
 {
-    if rows.count == 0 {
+    if bytes == 0 {
         return 13 + title;
     }
-    11 + title + rows_length(rows)
+    11 + title + bytes
 }
 
-// The menu with a title and these rows at the front of the buffer; how many bytes it has.
-pub fn write_menu(buf: &mut [u8], title: &[u8], rows: Rows) -> usize
+// The menu with a title and the shown of these rows at the front of the buffer; how many bytes it has.
+pub fn write_menu(buf: &mut [u8], title: &[u8], rows: Rows, selectable: u8) -> usize
     requires { ⌜ Fits rows × (length (now title) ≤ 20) × (256 ≤ length (now buf)) ⌝ }
-    ensures { λ r. ⌜ Wrote (now (buf .entry)) 0 (menuBytes (menuOf (now (title .entry)) (viewRows rows))) (now (buf .exit)) r ⌝ }
+    ensures { λ r. ⌜ Wrote (now (buf .entry)) 0 (menuBytes (menuOf (now (title .entry)) (shownOf selectable rows))) (now (buf .exit)) r ⌝ }
 {
     let len = title.len();
-    let n = value_length(len, rows);
+    let shown = extent_of(rows, selectable);
+    let n = value_length(len, shown.bytes);
     let first = put_length(buf, n);
-    let help = some_help(rows);
-    let q = qualifier(help);
+    let q = qualifier(shown.help);
     let head = [0x81, 3, 1, 0x25, q, 0x82, 2, 0x81, 0x82, 0x85, len as u8];
     let second = writing::put(buf, first, &head);
     let third = writing::put(buf, second, title);
-    put_items(buf, third, rows)
+    put_items(buf, third, shown.bytes, rows, selectable)
 }
 
 // The event list of these codes at the front of the buffer; how many bytes it has.

@@ -1,15 +1,16 @@
 -- The desk: a session has begun, and a command is outstanding, as the history names it.
 -- Assumes nothing.
 use mathlib.Core.Path.{_≡_, refl, ap, _∙_}
-use mathlib.Core.Bool.{Bool, true, false, not, _||_}
-use mathlib.Core.List.{[], _∷_}
+use mathlib.Core.Bool.{Bool, true, false, not}
+use mathlib.Core.List.{List, [], _∷_}
 use lib.ListN.{length}
 use lib.Dec.{eqb·suc-zero}
 use Rattle.lists.specs.Tests.{if_then_else_, _==_}
 use Rattle.lists.specs.Lists.{some?}
+use Rattle.rules.specs.declared.Due.{Due}
 use Rattle.rules.specs.Holds.{Tables, Desk, Model}
-use Rattle.rules.specs.Commands.{menuBytes, eventBytes, commandBytes, menuOf, shownMenu, shownEvents}
-use Rattle.rules.specs.Desk.{marked, withProfile, withHandedOut, dueCommand, withMarks, menuChanges, eventsChange}
+use Rattle.rules.specs.Commands.{menuBytes, eventBytes, commandBytes}
+use Rattle.rules.specs.Desk.{marked, withProfile, withMarks, changes, either, Matter, menu, eventList, commandFor, dueMatters, firstCommand, dueCommand, withFirst, withHandedOut}
 use Rattle.rules.specs.Calls.{Call, admin, event, entry, timer, arrival, settled, proactive, systemCommand, envelope, profile, send, response}
 use Rattle.rules.specs.Step.{arrivalDesk, proactiveDesk, deskAfter, tablesAfter, changed, answer}
 use Rattle.history.specs.Histories.{did, History}
@@ -18,31 +19,30 @@ use Rattle.history.proofs.Open.{reading}
 use Rattle.history.proofs.Agree.{AgreeDesk}
 
 -- the due marks leave the session and what is outstanding
-marks-leave : {B : Type 0} (g : Desk → B) → ((d : Desk) (m e : Bool) → g (withMarks d (d .outstanding) m e) ≡ g d)
+marks-leave : {B : Type 0} (g : Desk → B) → ((d : Desk) (x : Due) → g (withMarks d (d .outstanding) x) ≡ g d)
     → (before after : Tables) (d : Desk) → g (marked before after d) ≡ g d
 unfolding marked
 marks-leave g k before after d = go (d .session)
   where
     go : (b : Bool)
-        → g (if b then withMarks d (d .outstanding) (d .menuDue || menuChanges before after) (d .eventsDue || eventsChange before after) else d) ≡ g d
-    go true = k d _ _
+        → g (if b then withMarks d (d .outstanding) (either (d .due) (changes before after)) else d) ≡ g d
+    go true = k d _
     go false = refl
 
 -- a command that is due is handed out, and has a length
 handed-out : (t : Tables) (d : Desk)
     → withHandedOut d .outstanding ≡ (if not (length (dueCommand t d) == 0) then true else d .outstanding)
-unfolding withHandedOut dueCommand menuBytes eventBytes commandBytes
-handed-out t d = go (d .menuDue) (d .eventsDue)
+unfolding withHandedOut withFirst dueCommand firstCommand commandFor menuBytes eventBytes commandBytes
+handed-out t d = go (dueMatters (d .due))
   where
-    go : (a b : Bool)
-        → (if a then withMarks d true false (d .eventsDue) else if b then withMarks d true false false else d) .outstanding ≡ (if not (length (if a then menuBytes (menuOf (d .title) (shownMenu t)) else if b then eventBytes (shownEvents t) else []) == 0) then true else d .outstanding)
-    go true b = rw (eqb·suc-zero _) refl
-    go false true = rw (eqb·suc-zero _) refl
-    go false false = refl
+    go : (l : List Matter) → withFirst d l .outstanding ≡ (if not (length (firstCommand t (d .title) l) == 0) then true else d .outstanding)
+    go [] = refl
+    go (menu ∷ l) = rw (eqb·suc-zero _) refl
+    go (eventList ∷ l) = rw (eqb·suc-zero _) refl
 
 session-after : (m : Model) (h : History) (c : Call) → AgreeDesk (m .desk) h
     → deskAfter m c .session ≡ inSession (did c (answer m c) ∷ h)
-unfolding deskAfter arrivalDesk proactiveDesk withProfile withHandedOut inSession some? reading
+unfolding deskAfter arrivalDesk proactiveDesk withProfile withHandedOut withFirst inSession some? reading
 session-after m h (admin c) g = g .session
 session-after m h (event c) g = g .session
 session-after m h (entry c) g = g .session
@@ -52,13 +52,11 @@ session-after m h (arrival (profile bytes)) g = refl
 session-after m h settled g = g .session
 session-after m h (proactive (send n bytes)) g = g .session
 session-after m h (proactive response) g = g .session
-session-after m h (systemCommand buffer) g = go (m .desk .menuDue) (m .desk .eventsDue) ∙ g .session
+session-after m h (systemCommand buffer) g = go (dueMatters (m .desk .due)) ∙ g .session
   where
-    go : (a b : Bool)
-        → (if a then withMarks (m .desk) true false (m .desk .eventsDue) else if b then withMarks (m .desk) true false false else m .desk) .session ≡ m .desk .session
-    go true b = refl
-    go false true = refl
-    go false false = refl
+    go : (l : List Matter) → withFirst (m .desk) l .session ≡ m .desk .session
+    go [] = refl
+    go (x ∷ l) = refl
 
 outstanding-after : (m : Model) (h : History) (c : Call) → AgreeDesk (m .desk) h
     → deskAfter m c .outstanding ≡ isOutstanding (did c (answer m c) ∷ h)
@@ -82,9 +80,9 @@ unfolding changed
 desk-kept m h c g =
     record {
       session =
-          marks-leave (λ d. d .session) (λ d x y. refl) (m .tables) (tablesAfter (m .tables) c) (deskAfter m c)
+          marks-leave (λ d. d .session) (λ d x. refl) (m .tables) (tablesAfter (m .tables) c) (deskAfter m c)
           ∙ session-after m h c g;
       outstanding =
-          marks-leave (λ d. d .outstanding) (λ d x y. refl) (m .tables) (tablesAfter (m .tables) c) (deskAfter m c)
+          marks-leave (λ d. d .outstanding) (λ d x. refl) (m .tables) (tablesAfter (m .tables) c) (deskAfter m c)
           ∙ outstanding-after m h c g;
     }

@@ -29,7 +29,7 @@ use Rattle.rules.specs.Desk.{sameRow?}
 use Rattle.rules.specs.Refusals.{eventLines, lines, refusal}
 use Rattle.rules.specs.Step.{eventAnswer, answer, step}
 use Rattle.rules.proofs.Refused.{refused}
-use Rattle.rules.proofs.Due.{row-self}
+use Rattle.rules.proofs.DueMarks.{row-self}
 use Rattle.rules.specs.Runs.{after}
 use Rattle.runs.specs.Sound.{SoundTables}
 use Rattle.runs.proofs.Accepted.{accepted as none-holds}

@@ -1,2 +1,5 @@
--- The walk that the lent calls share.
+-- The parameters of a lent call as a block; what its method hands back; the one walk of a lent call; the bank's two.
+pub mod Pars
+pub mod Results
 pub mod Walk
+pub mod Banks

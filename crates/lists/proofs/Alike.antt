@@ -8,7 +8,7 @@ use mathlib.Core.List.{List, [], _∷_}
 use lib.ListN.{length, take, drop, take-append-drop}
 use borrow.Author.Tests.{eq-eqb}
 use Rattle.lists.specs.Tests.{if_then_else_}
-use Rattle.lists.specs.Lists.{Every, some?, keep, first, change, insertAt, alike?, same?}
+use Rattle.lists.specs.Lists.{Every, some?, keep, first, change, insertAt, alike?, same?, in?, repeats?}
 use Rattle.lists.proofs.Truth.{and-true, and-false, or-false}
 use Rattle.lists.proofs.Every.{every-all}
 use Rattle.lists.proofs.Keep.{keep-append, keep-insert}
@@ -131,3 +131,9 @@ module _ {A : Type 0} (e : A → A → Bool) (self : (x : A) → e x x ≡ true)
 pub same-self : (l : List ℕ) → same? l l ≡ true
 unfolding same?
 same-self l = alike-self _ (λ n. eq-eqb n n refl) l
+
+-- lists with the same numbers are alike to those that may stand again
+pub repeats-alike : (l a b : List ℕ) → ((n : ℕ) → in? n a ≡ in? n b) → repeats? l a ≡ repeats? l b
+unfolding repeats?
+repeats-alike [] a b e = refl
+repeats-alike (n ∷ l) a b e = rw (e n, repeats-alike l a b e) refl

@@ -17,6 +17,8 @@ pub mod Owned
 pub mod InPlace
 pub mod Ifs
 pub mod Places
+pub mod Tables
+pub mod Bits
 pub mod Times
 pub mod Keyed
 pub mod Order

@@ -1,18 +1,19 @@
--- A list whose elements have numbers of their own: a search by the number of an element finds that element.
+-- A list whose elements have numbers of their own: a search by the number of an element finds that element, and a sum goes by the numbers.
 -- Assumes nothing.
-use Prim.Native.Nat.{ℕ, suc, _≤_}
+use Prim.Native.Nat.{ℕ, suc, _+_, _≤_}
 use native.Mathlib.Omega.{arith}
-use mathlib.Core.Path.{_≡_, refl, sym, ap, _∙_}
+use mathlib.Core.Path.{_≡_, refl, sym, ap, ap₂, _∙_}
 use mathlib.Core.Bool.{Bool, true, false, _&&_, _||_, or-true}
 use mathlib.Core.List.{List, [], _∷_}
 use lib.ListN.{getD}
 use Rattle.lists.specs.Tests.{if_then_else_, _==_}
-use Rattle.lists.specs.Lists.{Every, some?, first, count, indexOf}
+use Rattle.lists.specs.Lists.{Every, some?, first, count, indexOf, sum}
 use Rattle.lists.proofs.Decided.{both, same}
-use Rattle.lists.proofs.Every.{every-so, every-both}
-use Rattle.lists.proofs.Counts.{count-some, count-within}
-use Rattle.lists.proofs.Firsts.{first-passes}
+use Rattle.lists.proofs.Every.{every-so, every-both, every-all}
+use Rattle.lists.proofs.Counts.{count-some, count-within, none-counted}
+use Rattle.lists.proofs.Firsts.{first-passes, first-missed}
 use Rattle.lists.proofs.Search.{first-is}
+use Rattle.lists.proofs.Sums.{sum-both, sum-alike, sum-zero, given-once}
 
 module _ {A : Type 0} (f : A → ℕ) where
   -- there is one with the number of each
@@ -61,3 +62,19 @@ module _ {A : Type 0} (p q : A → Bool) where
   first-both d l h e =
       let same-one : first p d l ≡ first (λ x. p x && q x) d l = first-is p l d ∙ ap (λ (i : ℕ). getD l i d) (index-both l h e) ∙ sym (first-is (λ x. p x && q x) l d) in
       rw same-one (both (p (first (λ x. p x && q x) d l)) _ (first-passes (λ x. p x && q x) d l e) .1)
+
+-- the sum by the numbers, where each element has one of them, and the default counts nothing
+module _ {A : Type 0} (f : A → ℕ) (d : A) (size : A → ℕ) (nothing : size d ≡ 0) (numbers : List ℕ) where
+  pub sum-numbers : (l : List A) → Apart f l → Every (λ x. count (λ n. f x == n) numbers ≡ 1) l → sum size l ≡ sum (λ n. size (first (λ x. f x == n) d l)) numbers
+  unfolding sum count first Every
+  sum-numbers [] h once = sym (ap (λ (k : ℕ). sum (λ n. k) numbers) nothing ∙ sum-zero numbers)
+  sum-numbers (x ∷ l) h once =
+      ap₂ (λ (a b : ℕ). a + b) (sym (given-once (λ n. f x == n) (size x) numbers (once .0))) (sum-numbers l (apart-rest f x l h) (once .1))
+      ∙ sym (sum-both _ _ numbers)
+      ∙ sym (sum-alike _ _ numbers (every-all (λ n. size (if f x == n then x else first (λ y. f y == n) d l) ≡ (if f x == n then size x else 0) + size (first (λ y. f y == n) d l)) (λ n. each n (f x == n) refl) numbers))
+    where
+      each : (n : ℕ) (b : Bool) → (f x == n) ≡ b → size (if b then x else first (λ y. f y == n) d l) ≡ (if b then size x else 0) + size (first (λ y. f y == n) d l)
+      each n true e =
+          let none : some? (λ y. f y == n) l ≡ false = none-counted _ l (omega (arith, rw e at (h n))) in
+          omega (arith, ap size (first-missed (λ y. f y == n) d l none) ∙ nothing)
+      each n false e = omega arith

@@ -1,4 +1,4 @@
--- Laws of `sum` and `gather`: of lists joined and thinned, of one element in the whole, and of counting twice.
+-- Laws of `sum` and `gather`: of lists joined and thinned, of one element in the whole, of one that counts alone, and of counting twice.
 -- Assumes nothing.
 use Prim.Native.Nat.{ℕ, suc, _+_, _≤_}
 use native.Mathlib.Omega.{arith}
@@ -10,6 +10,7 @@ use Rattle.lists.specs.Tests.{if_then_else_}
 use Rattle.lists.specs.Lists.{Every, some?, keep, first, count, sum, gather}
 use Rattle.lists.proofs.Decided.{clashing}
 use Rattle.lists.proofs.Counts.{count-append}
+use Rattle.lists.proofs.Firsts.{some-append}
 
 module _ {A : Type 0} (f : A → ℕ) where
   pub sum-append : (l k : List A) → sum f (l ++ k) ≡ sum f l + sum f k
@@ -66,7 +67,7 @@ module _ {A : Type 0} (f : A → ℕ) where
       go true e = omega arith
       go false e = omega arith
 
-sum-zero : {A : Type 0} (l : List A) → sum (λ x. 0) l ≡ 0
+pub sum-zero : {A : Type 0} (l : List A) → sum (λ x. 0) l ≡ 0
 unfolding sum
 sum-zero [] = refl
 sum-zero (x ∷ l) = omega (arith, sum-zero l)
@@ -82,3 +83,32 @@ pub count-gather : {A B : Type 0} (p : B → Bool) (f : A → List B) (l : List 
 unfolding sum count gather
 count-gather p f [] = refl
 count-gather p f (x ∷ l) = omega (arith, count-append p (f x) (gather f l), count-gather p f l)
+
+-- one of what is gathered passes
+pub some-gather : {A B : Type 0} (p : B → Bool) (f : A → List B) (l : List A) → some? p (gather f l) ≡ some? (λ x. some? p (f x)) l
+unfolding some? gather
+some-gather p f [] = refl
+some-gather p f (x ∷ l) = some-append p (f x) (gather f l) ∙ ap (λ (b : Bool). some? p (f x) || b) (some-gather p f l)
+
+-- a number for each that passes, where one does
+module _ {A : Type 0} (p : A → Bool) (n : ℕ) where
+  abbrev given : A → ℕ
+  given x = if p x then n else 0
+
+  given-none : (l : List A) → count p l ≤ 0 → sum given l ≡ 0
+  unfolding sum count
+  given-none [] h = refl
+  given-none (x ∷ l) h = go (p x) h (given-none l)
+    where
+      go : (b : Bool) → (if b then suc (count p l) else count p l) ≤ 0 → (count p l ≤ 0 → sum given l ≡ 0) → (if b then n else 0) + sum given l ≡ 0
+      go true k r = absurd (omega arith)
+      go false k r = omega (arith, r k)
+
+  pub given-once : (l : List A) → count p l ≡ 1 → sum given l ≡ n
+  unfolding sum count
+  given-once [] h = absurd (omega arith)
+  given-once (x ∷ l) h = go (p x) h (given-once l)
+    where
+      go : (b : Bool) → (if b then suc (count p l) else count p l) ≡ 1 → (count p l ≡ 1 → sum given l ≡ n) → (if b then n else 0) + sum given l ≡ n
+      go true k r = omega (arith, given-none l (omega arith))
+      go false k r = omega (arith, r k)

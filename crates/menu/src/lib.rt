@@ -9,7 +9,7 @@ ghost use lib.ListN.{length};
 ghost use Rattle.lists.specs.Lists.{insertAt, indexOf};
 ghost use Rattle.rules.specs.Rows.{hasIdentifier, place, withoutRows};
 ghost use Rattle.rules.specs.Held.{viewRow, storedRow, noRow, viewRows, storedRows, TidyRows};
-ghost use Rattle.menu.specs.Table.{withRow, rowWith, TidyRow};
+ghost use Rattle.menu.specs.Table.{withRow, TidyRow};
 
 // The row that stands where there is none.
 fn no_row() -> Row
@@ -114,17 +114,4 @@ pub fn find(rows: Rows, identifier: u8) -> usize
         i += 1;
     }
     n
-}
-
-// The row with an identifier; the empty row where there is none.
-pub fn row_with(rows: Rows, identifier: u8) -> Row
-    requires { ⌜ TidyRows rows ⌝ }
-    ensures { λ r. ⌜ r ≡ storedRow (rowWith identifier (viewRows rows)) ⌝ }
-{
-    let n = rows.count as usize;
-    let i = find(rows, identifier);
-    if i < n {
-        return rows.at[i];
-    }
-    no_row()
 }

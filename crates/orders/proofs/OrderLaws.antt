@@ -18,12 +18,12 @@ use Rattle.rules.specs.Floor.{only-if, orderBy, filled, orderOf}
 use Rattle.asks.specs.declared.Ask.{Ask}
 use Rattle.asks.specs.declared.Ask.the-variants.{Unknown}
 use Rattle.asks.specs.Asks.{fits, callOf, marksHelp}
-use Rattle.orders.specs.Orders.{argumentsOf, fitting, orderFor, ordered, AsksFor}
+use Rattle.orders.specs.Orders.{argumentsOf, fitting, ordered, AsksFor}
 
 module _ (a : ℕ) (l : List ℕ) (o : Ask) (c : Call) (is : ordered o a l ≡ floor.call c) where
   -- a letter that asks for an applet
   pub of-applet : (b : Bool) → fits o l ≡ b → ordered (fitting o l) a l ≡ only-if b c
-  unfolding ordered orderFor callOf fitting
+  unfolding ordered callOf fitting
   of-applet b e = rw e (go b)
     where
       go : (b : Bool) → ordered (if b then o else Unknown) a l ≡ only-if b c
@@ -32,7 +32,7 @@ module _ (a : ℕ) (l : List ℕ) (o : Ask) (c : Call) (is : ordered o a l ≡ f
 
   -- and one that asks for none
   pub of-none : (b : Bool) → fits o l ≡ b → {r : Ask} → r ≡ (if a == 0 then o else Unknown) → ordered (fitting r l) a l ≡ only-if (b && a == 0) c
-  unfolding ordered orderFor callOf fitting fits
+  unfolding ordered callOf fitting fits
   of-none b e f = rw f (go (a == 0))
     where
       go : (d : Bool) → ordered (fitting (if d then o else Unknown) l) a l ≡ only-if (b && d) c
@@ -42,7 +42,7 @@ module _ (a : ℕ) (l : List ℕ) (o : Ask) (c : Call) (is : ordered o a l ≡ f
 pub by-letter : {x : ℕ} (y a : ℕ) (l : List ℕ) (r : Ask) → x ≡ y → ordered (fitting r l) a l ≡ orderBy y a (length l) l → ordered (fitting r l) a l ≡ orderBy x a (length l) l
 by-letter y a l r e h = rw e h
 
-pub help-first : (l : List ℕ) → marksHelp 0 l ≡ (1 ≤? length l && byte l 0 ≤? 1)
+pub help-first : (l : List ℕ) → marksHelp l ≡ (1 ≤? length l && byte l 0 ≤? 1)
 unfolding marksHelp
 help-first [] = refl
 help-first (x ∷ l) = rw (le-leb 1 (length (x ∷ l)) (omega arith)) refl
@@ -80,5 +80,5 @@ module _ (s : List ℕ) where
       rw (so, made) ((rw (ex, ea) at (h (argumentsOf s))) ∙ ap (λ (n : ℕ). orderBy (byte s 0) (byte s 1) n (argumentsOf s)) (counted so))
 
   pub read-not : (b : Bool) → b ≡ filled s → b ≡ false → ordered Unknown (byte s 1) (argumentsOf s) ≡ orderOf s
-  unfolding orderOf ordered orderFor callOf
+  unfolding orderOf ordered callOf
   read-not b f t = rw (sym f ∙ t) refl

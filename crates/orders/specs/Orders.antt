@@ -8,7 +8,7 @@ use Rattle.rules.specs.Bytes.{byte}
 use Rattle.rules.specs.Floor as floor
 use Rattle.asks.specs.declared.Ask.{Ask}
 use Rattle.asks.specs.declared.Ask.the-variants.{Unknown}
-use Rattle.asks.specs.Asks.{Asked, calls, turned, fits, callOf}
+use Rattle.asks.specs.Asks.{fits, callOf}
 
 -- the arguments of a record
 unfoldable pub argumentsOf : List ℕ → List ℕ
@@ -18,14 +18,9 @@ argumentsOf r = take (byte r 2) (drop 3 r)
 unfoldable pub fitting : Ask → List ℕ → Ask
 fitting ask l = if fits ask l then ask else Unknown
 
--- what the door would refuse by itself is no call
-unfoldable pub orderFor : Asked → floor.Order
-orderFor (calls c) = floor.call c
-orderFor (turned n) = floor.noCall
-
 -- the rules' order; a system command is handed out into 256 bytes
 unfoldable pub ordered : Ask → (applet : ℕ) (arguments : List ℕ) → floor.Order
-ordered ask a l = orderFor (callOf ask a l (replicate 256 0))
+ordered ask a l = callOf ask a l (replicate 256 0)
 
 -- what a letter asks for, of an applet and with any arguments
 abbrev pub AsksFor : (letter applet : ℕ) → Ask → Type 0

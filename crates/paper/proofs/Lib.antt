@@ -1,2 +1,2 @@
 -- What is proved of the answers.
-pub mod Settled
+pub mod OfCalled

@@ -1,17 +1,16 @@
-// An answer as document 01 puts it, for a caller in C: one struct for every call, without an enum in it.
-// The timer bank's two calls by value stand here with such answers.
-use rules::Applets;
-use rules::Bank;
+// An answer as document 01 puts it, for a caller in C and for a line of the floor program: one struct for every call, without an enum in it.
+// What it says of each answer stands in specs/Answers.antt.
 use rules::Called;
 use rules::Done;
 use rules::Given;
 use rules::Marks;
+use rules::Roll;
 use rules::Told;
 ghost use mathlib.Core.Path.{_≡_};
 ghost use mathlib.Core.List.{[]};
 ghost use Rattle.rules.specs.Arrivals.{noMarks};
 ghost use Rattle.rules.specs.Papers.{paperDone, paperGiven, paperTold};
-ghost use Rattle.paper.specs.Answers.{storedAnswer, answerOf, Allots, Frees};
+ghost use Rattle.paper.specs.Answers.{storedAnswer, answerOf};
 
 // An answer on paper: the refusal's number (0: none), a number, a yes or no, the applets called, and the marks.
 #[repr(C)]
@@ -19,15 +18,9 @@ pub struct Answer {
     pub refusal: u8,
     pub number: u8,
     pub says: bool,
-    pub called: [u8; Applets::MOST],
+    pub called: [u8; Roll::APPLETS],
     pub count: u8,
     pub marks: Marks,
-}
-
-// The timer bank after a call, with the answer.
-pub struct Banked {
-    pub bank: Bank,
-    pub answer: Answer,
 }
 
 // A refusal's number, or 0, a number and a yes or no; nobody is called.
@@ -38,7 +31,7 @@ pub fn plain(refusal: u8, number: u8, says: bool) -> Answer
         refusal,
         number,
         says,
-        called: [0; Applets::MOST],
+        called: [0; Roll::APPLETS],
         count: 0,
         marks: Marks {
             proactive: false,
@@ -90,26 +83,4 @@ pub fn of_called(c: Called) -> Answer
         count: c.count,
         marks,
     }
-}
-
-// Gives an applet the lowest free timer of a bank.
-pub fn allocate(bank: Bank, applet: u8, limit: u8) -> Banked
-    ensures { λ r. ⌜ Allots bank applet limit (r .answer) (r .bank) ⌝ }
-{
-    let after = timers::allocate(bank, applet, limit);
-    let left = after.bank;
-    let given = after.answer;
-    let answer = of_given(given);
-    Banked { bank: left, answer }
-}
-
-// Frees a timer of an applet in a bank.
-pub fn release(bank: Bank, applet: u8, timer: u8) -> Banked
-    ensures { λ r. ⌜ Frees bank applet timer (r .answer) (r .bank) ⌝ }
-{
-    let after = timers::release(bank, applet, timer);
-    let left = after.bank;
-    let given = after.answer;
-    let answer = of_done(given);
-    Banked { bank: left, answer }
 }

@@ -1,7 +1,7 @@
 -- The models that a fresh card and calls have left: records leave such a model again, and its card is one that calls have left.
 -- Assumes nothing.
 use Prim.Native.Nat.{ℕ, zero, suc}
-use mathlib.Core.Path.{_≡_, ap, _∙_}
+use mathlib.Core.Path.{_≡_, sym, ap, _∙_}
 use mathlib.Core.List.{List, [], _∷_}
 use lib.ListN.{length, take, drop}
 use Rattle.lists.specs.Lists.{empty?}
@@ -12,10 +12,9 @@ use Rattle.rules.specs.Step.{step}
 use Rattle.rules.specs.Runs.{after}
 use Rattle.rules.specs.Floor as floor
 use Rattle.rules.specs.Floor.{stepLine, obeyed, orderOf}
-use Rattle.rules.proofs.Bounds.{after-keeps}
 use Rattle.card.specs.declared.Card.{Card}
 use Rattle.card.specs.View.{view, stored, Left}
-use Rattle.card.proofs.Left.{view-left, view-stored}
+use Rattle.card.proofs.Left.{view-left}
 use Rattle.pieces.specs.Pieces.{cardBy, cardAfter}
 
 pub record Reached (m : Model) : Type 0 where
@@ -31,7 +30,8 @@ pub reached-left : {m : Model} → Reached m → Left (stored m)
 reached-left r = record { title = r .title; calls = r .calls; is = ap stored (r .is) }
 
 pub reached-seen : {m : Model} → Reached m → view (stored m) ≡ m
-reached-seen {m} r = view-stored m (ap (λ (x : Model). x .tables .bounds) (r .is) ∙ after-keeps document (r .title) (r .calls))
+unfolding reached-left
+reached-seen {m} r = view-left (stored m) (reached-left r) ∙ sym (r .is)
 
 -- a record, and all records of a piece
 pub reached-again : (k : ℕ) {m : Model} (s : List ℕ) → Reached m → Reached (stepLine k m s .card)

@@ -1,3 +1,2 @@
--- What a call of the card gives is what the door posts; and the door's promises.
+-- What a call of the card gives is what is made of an order.
 pub mod PostLaws
-pub mod Promise

@@ -1,48 +1,39 @@
--- What a call of the card gives, put on paper, is what the rules say that the door posts.
+-- What a call of the card gives, put on paper, is what the rules say that is made of an order.
 -- Assumes nothing.
 use Prim.Native.Nat.{ℕ}
 use mathlib.Core.Path.{_≡_, refl, sym, ap, subst, _∙_}
 use mathlib.Core.List.{List}
-use lib.IntN.{ℤ}
 use Rattle.lists.specs.Tests.{_==_}
 use Rattle.rules.specs.Holds.{Model}
-use Rattle.rules.specs.Calls.{Call, event, entry, askEvent, newEntry, changeEntry, Answer as PaperAnswer, only}
-use Rattle.rules.specs.Papers.{paperDone, paperGiven, paperTold, paperCalled}
+use Rattle.rules.specs.Calls.{Call, entry, newEntry, only}
+use Rattle.rules.specs.Papers.{paperDone, paperGiven}
 use Rattle.rules.specs.Step.{step}
+use Rattle.rules.specs.Floor.{Order, call, noCall}
 use Rattle.card.specs.declared.Card.{Card}
 use Rattle.card.specs.declared.Changed.{Changed}
 use Rattle.card.specs.declared.Numbered.{Numbered}
-use Rattle.card.specs.declared.Asked.{Asked as CardAsked}
 use Rattle.card.specs.declared.Arrived.{Arrived}
 use Rattle.card.specs.View.{view, stored, Left}
-use Rattle.card.specs.Reply.{calledOf, changedBy, numberedBy, askedBy, arrivedBy}
-use Rattle.card.proofs.Left.{left-again, left-form}
-use Rattle.bridge.specs.Sequences.{Doing, Giving, Naming}
-use Rattle.bridge.specs.Sequences.{is-admin, is-set, is-clear, is-change, is-enable, is-disable, is-release, is-proactive, is-arrival, is-settled}
-use Rattle.bridge.proofs.OnPaper.{done-on-paper}
-use Rattle.bridge.proofs.SameRuns.{doing, giving, naming, telling}
+use Rattle.card.specs.Reply.{calledOf, changedBy, numberedBy, arrivedBy}
+use Rattle.card.specs.Kinds.{Doing, Giving, Naming}
+use Rattle.card.specs.Kinds.{is-admin, is-set, is-clear, is-change, is-enable, is-disable, is-release, is-proactive, is-arrival, is-settled}
+use Rattle.card.proofs.Left.{left-form}
+use Rattle.card.proofs.OnPaper.{doing, giving, naming}
 use Rattle.paper.specs.declared.Answer.{Answer}
+use Rattle.paper.proofs.OfCalled.{called-answer}
 use Rattle.port.specs.declared.Posted.{Posted}
 use Rattle.asks.specs.declared.Deed.{Deed}
 use Rattle.asks.specs.declared.Deed.the-variants as deed
 use Rattle.asks.specs.declared.Gift.{Gift}
 use Rattle.asks.specs.declared.Arrival.{Arrival}
 use Rattle.asks.specs.declared.Arrival.the-variants as arriving
-use Rattle.asks.specs.Asks.{Asked, calls, turned, deedCall, giftCall, arrivalCall}
-use Rattle.port.specs.Posts.{lentAfter, postedBy, Gives, posted, Posts}
+use Rattle.asks.specs.Asks.{deedCall, giftCall, arrivalCall}
+use Rattle.port.specs.Posts.{lentAfter, postedBy, Gives, Performs}
 use Rattle.paper.specs.Answers.{storedAnswer, answerOf}
 
--- what is posted, by what is asked
-pub posts-as : (m : Model) (out end : List ℕ) {a b : Asked} {k : Card} {s : Answer} → a ≡ b → Posts (posted m b out) end k s → Posts (posted m a out) end k s
-posts-as m out end {k = k} {s} e p = rw e p
-
--- a new entry, and a change, whose help mark, identifier and text a call gave
+-- a new entry whose help mark and text a call gave
 pub new-as : (m : Model) (n : ℕ) {h g : ℕ} {t u : List ℕ} → h ≡ g → t ≡ u → postedBy (step m (entry (newEntry n (h == 1) t))) ≡ postedBy (step m (entry (newEntry n (g == 1) u)))
 new-as m n e f = rw (e, f) refl
-
-pub change-as : (m : Model) (n : ℕ) {i j h g : ℕ} {t u : List ℕ} → i ≡ j → h ≡ g → t ≡ u
-    → postedBy (step m (entry (changeEntry n i (h == 1) t))) ≡ postedBy (step m (entry (changeEntry n j (g == 1) u)))
-change-as m n d e f = rw (d, e, f) refl
 
 -- a call's result, by the case that is asked for
 pub deed-as : (m : Model) (n : ℕ) (b : List ℕ) {d k : Deed} {r : Posted} → d ≡ k → r ≡ postedBy (step m (deedCall k n b)) → r ≡ postedBy (step m (deedCall d n b))
@@ -63,11 +54,6 @@ does deed.Lock n b = is-admin _
 does deed.Unlock n b = is-admin _
 does deed.SetEvent n b = is-set _ _
 does deed.ClearEvent n b = is-clear _ _
-does deed.ChangeEntry n b = is-change _ _ _ _
-does deed.EnableEntry n b = is-enable _ _
-does deed.DisableEntry n b = is-disable _ _
-does deed.Release n b = is-release _ _
-does deed.Send n b = is-proactive _
 does deed.Response n b = is-proactive _
 
 pub arrives : (d : Arrival) (b : List ℕ) → Naming (arrivalCall d b)
@@ -92,11 +78,6 @@ unfolding lentAfter
 left-by-arrivals written out (is-arrival x) = refl
 left-by-arrivals written out is-settled = refl
 
--- an arrival's answer is on paper what its struct says
-called-answer : (a : PaperAnswer) → paperCalled (calledOf a) ≡ a → answerOf (calledOf a) ≡ storedAnswer a
-unfolding answerOf calledOf storedAnswer paperCalled
-called-answer a e = rw (← e) refl
-
 -- a call's result, put on paper where it is made
 module _ (m : Model) (x : Call) where
   on-paper : (a : Answer) (p : Posted) → p ≡ record { card = stored (step m x .after); answer = a } → a ≡ storedAnswer (step m x .answer) → p ≡ postedBy (step m x)
@@ -106,7 +87,7 @@ module _ (m : Model) (x : Call) where
   pub done-posts : Doing x → {r : Changed} {p : Posted} → r ≡ changedBy (step m x) → p ≡ record { card = r .card; answer = storedAnswer (paperDone (r .answer)) } → p ≡ postedBy (step m x)
   unfolding changedBy
   done-posts d {p = p} re pe =
-      on-paper _ p (pe ∙ ap {A = Changed} {B = Posted} (λ q. record { card = q .card; answer = storedAnswer (paperDone (q .answer)) }) re) (ap storedAnswer (done-on-paper m x (doing m d)))
+      on-paper _ p (pe ∙ ap {A = Changed} {B = Posted} (λ q. record { card = q .card; answer = storedAnswer (paperDone (q .answer)) }) re) (ap storedAnswer (doing m d))
 
   pub gift-posts : Giving x → {r : Numbered} {p : Posted} → r ≡ numberedBy (step m x) → p ≡ record { card = r .card; answer = storedAnswer (paperGiven (r .answer)) } → p ≡ postedBy (step m x)
   unfolding numberedBy
@@ -114,28 +95,16 @@ module _ (m : Model) (x : Call) where
       on-paper _ p (pe ∙ ap {A = Numbered} {B = Posted} (λ q. record { card = q .card; answer = storedAnswer (paperGiven (q .answer)) }) re) (ap storedAnswer (giving m d))
 
   pub arrival-posts : Naming x → {r : Arrived} {p : Posted} → r ≡ arrivedBy (step m x) → p ≡ record { card = r .card; answer = answerOf (r .answer) } → p ≡ postedBy (step m x)
-  unfolding arrivedBy
+  unfolding arrivedBy calledOf
   arrival-posts d {p = p} re pe =
-      on-paper _ p (pe ∙ ap {A = Arrived} {B = Posted} (λ q. record { card = q .card; answer = answerOf (q .answer) }) re) (called-answer _ (naming m d))
+      on-paper _ p (pe ∙ ap {A = Arrived} {B = Posted} (λ q. record { card = q .card; answer = answerOf (q .answer) }) re) (called-answer _ _ (naming m d) refl refl)
 
-pub told-posts : (m : Model) (n : ℕ) (v : ℤ) {r : CardAsked} {p : Posted} → r ≡ askedBy (step m (event (askEvent n v)))
-    → p ≡ record { card = r .card; answer = storedAnswer (paperTold (r .answer)) } → p ≡ postedBy (step m (event (askEvent n v)))
-unfolding askedBy
-told-posts m n v {p = p} re pe =
-    on-paper m _ _ p (pe ∙ ap {A = CardAsked} {B = Posted} (λ q. record { card = q .card; answer = storedAnswer (paperTold (q .answer)) }) re) (ap storedAnswer (telling m n v))
+-- WHAT IS MADE OF AN ORDER: the rules' step of a call ..
+pub makes : (m : Model) (out end : List ℕ) (r : Posted) {a : Order} {x : Call} → a ≡ call x → r ≡ postedBy (step m x) → end ≡ lentAfter x (step m x .buffer) out → Performs m a out end r
+unfolding Performs
+makes m out end r e p b = rw e (p, b)
 
-module _ (card : Card) (left : Left card) (a : Asked) (out end : List ℕ) where
-  -- the rules' step of a call
-  pub makes : {x : Call} → a ≡ calls x → (p : Posted) → p ≡ postedBy (step (view card) x) → end ≡ lentAfter x (step (view card) x .buffer) out → Posts (posted (view card) a out) end (p .card) (p .answer)
-  unfolding posted postedBy
-  makes {x} e p pe b =
-      let k = ap (λ (q : Posted). q .card) pe in
-      rw e (record { card-is = k; answer-is = ap (λ (q : Posted). q .answer) pe; buffer-is = b; left = rw k (left-again card x left) })
-
-  -- the door's own refusal
-  pub turns : {n : ℕ} → a ≡ turned n → (p : Posted) → p ≡ record { card = card; answer = storedAnswer (only n) }
-      → end ≡ out → Posts (posted (view card) a out) end (p .card) (p .answer)
-  unfolding posted
-  turns e p pe b =
-      let same = ap (λ (q : Posted). q .card) pe in
-      rw e (record { card-is = same ∙ left-form card left; answer-is = ap (λ (q : Posted). q .answer) pe; buffer-is = b; left = rw same left })
+-- .. or nothing
+pub unmade : (card : Card) → Left card → (out : List ℕ) (r : Posted) {a : Order} → a ≡ noCall → r ≡ record { card = card; answer = storedAnswer (only 0) } → Performs (view card) a out out r
+unfolding Performs
+unmade card left out r e p = rw e (p ∙ ap {A = Card} {B = Posted} (λ k. record { card = k; answer = storedAnswer (only 0) }) (left-form card left), refl)

@@ -1,2 +1,2 @@
--- What a caller in C gets.
+-- What is made of an order.
 pub mod Posts

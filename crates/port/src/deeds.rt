@@ -2,14 +2,12 @@
 use crate::Posted;
 use crate::changed;
 use asks::Deed;
-use asks::byte_at;
-use asks::from;
 use asks::request;
 use asks::value_of;
 use card::Card;
 use rules::Request;
 ghost use mathlib.Core.Path.{_≡_};
-ghost use Rattle.rules.specs.Calls.{admin, event, entry, timer as timer-call, proactive, install, delete, lock, unlock, setEvent, clearEvent, changeEntry, enableEntry, disableEntry, release, send, response};
+ghost use Rattle.rules.specs.Calls.{admin, event, proactive, install, delete, lock, unlock, setEvent, clearEvent, response};
 ghost use Rattle.rules.specs.Step.{step};
 ghost use Rattle.card.specs.View.{view, Left};
 ghost use Rattle.asks.specs.Asks.{deedCall};
@@ -57,41 +55,6 @@ fn clear_event(card: Card, applet: u8, value: i16) -> Posted
     changed(card.clear_event(applet, value))
 }
 
-fn change_entry(card: Card, applet: u8, identifier: u8, help: bool, text: &[u8]) -> Posted
-    requires { ⌜ Left card ⌝ }
-    ensures { λ r. ⌜ r ≡ postedBy (step (view card) (entry (changeEntry applet identifier help (now (text .entry))))) ⌝ }
-{
-    changed(card.change_entry(applet, identifier, help, text))
-}
-
-fn enable_entry(card: Card, applet: u8, identifier: u8) -> Posted
-    requires { ⌜ Left card ⌝ }
-    ensures { λ r. ⌜ r ≡ postedBy (step (view card) (entry (enableEntry applet identifier))) ⌝ }
-{
-    changed(card.enable_entry(applet, identifier))
-}
-
-fn disable_entry(card: Card, applet: u8, identifier: u8) -> Posted
-    requires { ⌜ Left card ⌝ }
-    ensures { λ r. ⌜ r ≡ postedBy (step (view card) (entry (disableEntry applet identifier))) ⌝ }
-{
-    changed(card.disable_entry(applet, identifier))
-}
-
-fn release(card: Card, applet: u8, timer: u8) -> Posted
-    requires { ⌜ Left card ⌝ }
-    ensures { λ r. ⌜ r ≡ postedBy (step (view card) (timer-call (release applet timer))) ⌝ }
-{
-    changed(card.release(applet, timer))
-}
-
-fn send(card: Card, applet: u8, bytes: &[u8]) -> Posted
-    requires { ⌜ Left card ⌝ }
-    ensures { λ r. ⌜ r ≡ postedBy (step (view card) (proactive (send applet (now (bytes .entry))))) ⌝ }
-{
-    changed(card.send(applet, bytes))
-}
-
 fn response(card: Card) -> Posted
     requires { ⌜ Left card ⌝ }
     ensures { λ r. ⌜ r ≡ postedBy (step (view card) (proactive response)) ⌝ }
@@ -111,17 +74,6 @@ pub fn do_deed(card: Card, deed: Deed, applet: u8, bytes: &[u8]) -> Posted
         Deed::Unlock => unlock(card, applet),
         Deed::SetEvent => set_event(card, applet, value_of(bytes)),
         Deed::ClearEvent => clear_event(card, applet, value_of(bytes)),
-        Deed::ChangeEntry => change_entry(
-            card,
-            applet,
-            byte_at(bytes, 0),
-            byte_at(bytes, 1) == 1,
-            from(bytes, 2),
-        ),
-        Deed::EnableEntry => enable_entry(card, applet, byte_at(bytes, 0)),
-        Deed::DisableEntry => disable_entry(card, applet, byte_at(bytes, 0)),
-        Deed::Release => release(card, applet, byte_at(bytes, 0)),
-        Deed::Send => send(card, applet, bytes),
         Deed::Response => response(card),
     }
 }

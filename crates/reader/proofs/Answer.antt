@@ -10,7 +10,7 @@ use lib.Seq.{getD-drop, drop-drop}
 use lib.Dec.{eqb·suc-zero}
 use borrow.Author.Tests.{le-leb, lt-leb}
 use Rattle.lists.specs.Tests.{if_then_else_, _==_, _≤?_}
-use Rattle.lists.specs.Lists.{padded, every?, some?, repeats?, empty?, same?}
+use Rattle.lists.specs.Lists.{padded, every?, some?, repeats?, empty?, same?, keep}
 use Rattle.lists.proofs.Truth.{and-false}
 use Rattle.lists.proofs.Mapped.{map-length}
 use Rattle.lists.proofs.Walk.{take-taken}
@@ -24,9 +24,12 @@ use Rattle.rules.specs.Refusals.{lowest}
 use Rattle.rules.specs.Beside.{readBy, menuReader}
 use Rattle.rules.specs.Held.{viewRows, storedRows, storedItem, storedMenu}
 use Rattle.rules.proofs.Held.{rows-back}
-use Rattle.command.specs.Fits.{itemsOf, Fits}
+use Rattle.sets.specs.Sets.{has?, digits}
+use Rattle.screen.specs.Asked.{isShown}
+use Rattle.command.specs.Fits.{itemsOf, shownOf, Fits}
 use Rattle.menu.proofs.Tidy.{tidy-stored}
-use Rattle.reader.specs.Reads.{noItem, refused, rowFor, identifiers, itemsAt, mayStay}
+use Rattle.reader.specs.declared.Parsed.{Parsed}
+use Rattle.reader.specs.Reads.{noItem, refused, rowFor, identifiers, itemsAt, mayStay, ItemsRead}
 use Rattle.reader.proofs.Lists.{drop-taken}
 use Rattle.reader.proofs.Items.{short-items}
 
@@ -89,6 +92,15 @@ value-most s {v} = go (byte s 1 == 0x81)
     go : (b : Bool) → v ≡ (if b then 3 else 2) → v ≤ 3
     go true e = omega arith
     go false e = omega arith
+
+-- the rows are all shown where applet 1 is selectable
+kept-all : (help : Bool) (l : List Item) → keep (isShown 1) (map (rowFor help) l) ≡ map (rowFor help) l
+unfolding keep has? digits
+kept-all help [] = refl
+kept-all help (i ∷ l) = ap (λ (k : List Row). rowFor help i ∷ k) (kept-all help l)
+
+pub all-shown : {s : List ℕ} {at : ℕ} {help : Bool} {r : Parsed} → ItemsRead s at help r → r .ok ≡ true → shownOf 1 (r .rows) ≡ viewRows (r .rows)
+all-shown {s} {at} {help} o e = let l = itemsAt s at in rw (o .rows e, rows-back (map (rowFor help) l)) (kept-all help l)
 
 -- the rows fit in a command
 pub rows-fit : (help : Bool) (l : List Item) → length l ≤ 12 → mayStay l ≡ true → Fits (storedRows (map (rowFor help) l))

@@ -173,7 +173,7 @@ module _ {s : List ℕ} {at : ℕ} {help : Bool} {rows : Rows} {next k : ℕ} (c
     -- the item is read
     pub come-more
         : proper i len ≡ true → next + 3 + len ≤ length s → {f : ℕ} → f ≡ indexOf (hasIdentifier i) (viewRows rows) → k ≤ f
-        → {row : held.Row} {text : List ℕ} → row ≡ storedRow (newRow i 0 help text) → text ≡ take len (drop (next + 3) s)
+        → {row : held.Row} {text : List ℕ} → row ≡ storedRow (newRow i 1 help text) → text ≡ take len (drop (next + 3) s)
         → {after : Rows} → after ≡ storedRows (withRow 0 (viewRow row) (viewRows rows))
         → Come s at help after (next + 3 + len) (k + 1)
     come-more p w ef h {row} {text} er et ea =
@@ -195,7 +195,7 @@ module _ {s : List ℕ} {at : ℕ} {help : Bool} {rows : Rows} {next k : ℕ} (c
         text-is = et ∙ ap (λ (j : ℕ). take j (drop (next + 3) s)) el ∙ take-taken (n - 1) (drop (next + 3) s)
 
         row-is : viewRow row ≡ rowFor help (itemAt s next n i)
-        row-is = unfold itemAt in ap viewRow er ∙ row-back (newRow i 0 help text) ∙ ap (λ (t : List ℕ). newRow i 0 help t) text-is
+        row-is = unfold itemAt in ap viewRow er ∙ row-back (newRow i 1 help text) ∙ ap (λ (t : List ℕ). newRow i 1 help t) text-is
 
         ended : (l : List Row) (x : Row) → insertAt (place 0 (length l)) x l ≡ l ++ (x ∷ [])
         ended l x = unfold insertAt place in rw (take-length l, drop-length l) refl

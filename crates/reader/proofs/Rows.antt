@@ -20,7 +20,8 @@ use Rattle.rules.specs.Holds.{Row}
 use Rattle.rules.specs.Held.{storedRow, storedItem, viewRows, TidyRows}
 use Rattle.rules.proofs.Reader.{same-true}
 use Rattle.rules.specs.Commands.{menuOf, menuBytes}
-use Rattle.command.specs.Fits.{itemsOf, Fits}
+use Rattle.command.specs.Fits.{itemsOf, shownOf, Fits}
+use Rattle.command.proofs.Lines.{rows-under}
 use Rattle.command.proofs.Whole.{menu-most}
 use Rattle.menu.proofs.Tidy.{held-is}
 use Rattle.reader.specs.Reads.{noItem}
@@ -54,8 +55,8 @@ pub front : {b s c : List ℕ} {n : ℕ} → Wrote b 0 s c n → take n c ≡ s
 unfolding putAt
 front {s = s} {n = n} w = let e : length s ≡ n = omega (arith, w .next) in ap (take n) (w .after) ∙ take-at s _ n e
 
-pub front-fits : (title : List ℕ) (s : Rows) → Fits s → length title ≤ 20 → {b c : List ℕ} {n : ℕ} → Wrote b 0 (menuBytes (menuOf title (viewRows s))) c n → n ≤ 250
-front-fits title s f h w = omega (arith, w .next, menu-most title s f h)
+pub front-fits : (title : List ℕ) (s : Rows) → Fits s → (set : ℕ) → length title ≤ 20 → {b c : List ℕ} {n : ℕ} → Wrote b 0 (menuBytes (menuOf title (shownOf set s))) c n → n ≤ 250
+front-fits title s f set h w = omega (arith, w .next, menu-most title (shownOf set s) (rows-under s f set) h)
 
 -- the verdict of a comparison is that of the test
 pub verdict : (r : Bool) (t s f : List ℕ) → f ≡ s → (r ≡ true → t ≡ f) × (t ≡ f → r ≡ true) → r ≡ same? s t

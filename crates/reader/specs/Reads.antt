@@ -23,9 +23,9 @@ refused = record { refusal = 1; menu = record { title = []; help = false; items 
 unfoldable pub proper : (identifier len : ℕ) → Bool
 proper i n = if i == 0 then false else if n == 0 then false else n ≤? 15
 
--- the row that an item is written again from
+-- the row that an item is written again from: an enabled one of applet 1
 abbrev pub rowFor : (help : Bool) → Item → Row
-rowFor help i = record { identifier = i .identifier; owner = 0; text = i .text; help = help; enabled = true }
+rowFor help i = record { identifier = i .identifier; owner = 1; text = i .text; help = help; enabled = true }
 
 abbrev pub identifiers : List Item → List ℕ
 identifiers l = map (λ (i : Item). i .identifier) l

@@ -17,7 +17,7 @@ ghost use Rattle.rules.specs.Bytes.{byte};
 ghost use Rattle.rules.specs.Commands.{menuOf, menuBytes};
 ghost use Rattle.rules.specs.Beside.{menuReader};
 ghost use Rattle.rules.specs.Held.{viewRows, storedItem, storedMenu, TidyRows};
-ghost use Rattle.command.specs.Fits.{itemsOf, Fits};
+ghost use Rattle.command.specs.Fits.{itemsOf, shownOf, Fits};
 ghost use Rattle.reader.specs.Reads.{noItem, refused, proper, ItemsRead};
 
 // The rows of the items that were read; `ok` tells whether they may stand in a menu.
@@ -74,7 +74,7 @@ fn is_proper(identifier: u8, len: usize) -> bool
     len <= Row::TEXT
 }
 
-// The items from a position on, as rows with this help mark.
+// The items from a position on, as rows of applet 1 with this help mark.
 fn read_rows(bytes: &[u8], at: usize, help: bool) -> Parsed
     requires { ⌜ at ≤ length (now bytes) ⌝ }
     ensures { λ r. ⌜ ItemsRead (now (bytes .entry)) at help r ⌝ }
@@ -97,7 +97,7 @@ fn read_rows(bytes: &[u8], at: usize, help: bool) -> Parsed
             return Parsed { ok: false, rows };
         }
         let end = from + len;
-        let row = rows::row_of(identifier, 0, help, &bytes[from..end]);
+        let row = rows::row_of(identifier, 1, help, &bytes[from..end]);
         rows = menu::inserted(rows, 0, row);
         next = end;
         k += 1;
@@ -165,13 +165,13 @@ fn help_alone(help: bool, count: u8) -> bool
     false
 }
 
-// The menu with this title and these rows is written as these bytes.
+// The menu with this title and these rows, all of applet 1 and shown, is written as these bytes.
 fn is_written(bytes: &[u8], title: &[u8], rows: Rows) -> bool
-    requires { ⌜ Fits rows × (length (now title) ≤ 20) ⌝ }
+    requires { ⌜ Fits rows × (shownOf 1 rows ≡ viewRows rows) × (length (now title) ≤ 20) ⌝ }
     ensures { λ r. ⌜ r ≡ same? (menuBytes (menuOf (now (title .entry)) (viewRows rows))) (now (bytes .entry)) ⌝ }
 {
     let mut buf = [0; 256];
-    let n = command::write_menu(&mut buf, title, rows);
+    let n = command::write_menu(&mut buf, title, rows, 1);
     check::same(bytes, &buf[..n])
 }
 

@@ -3,28 +3,24 @@
 use Prim.Native.Nat.{ℕ, _≤_}
 use native.Mathlib.Omega.{arith}
 use mathlib.Core.Path.{_≡_, refl, sym, ap, _∙_}
-use mathlib.Core.Bool.{Bool, true, false, not, _&&_}
+use mathlib.Core.Bool.{Bool, true, false, not}
 use mathlib.Core.List.{List, [], _∷_}
-use lib.IntN.{ℤ}
+use lib.ListN.{length}
 use borrow.Author.Tests.{ltb-false}
-use Rattle.lists.specs.Tests.{if_then_else_, _==_, _≤?_, _<?_}
-use Rattle.rules.specs.declared.Applet as held-applet
+use Rattle.lists.specs.Tests.{if_then_else_, _≤?_, _<?_}
+use Rattle.lists.proofs.Truth.{not-not}
 use Rattle.rules.specs.declared.Command.{Command}
 use Rattle.rules.specs.declared.Kind.{Kind}
 use Rattle.rules.specs.declared.Kind.the-variants.{Event, Issuer, Reserved, Unsupported}
 use Rattle.rules.specs.Holds.{Tables, Model}
-use Rattle.rules.specs.Held.{viewApplet, storedApplet}
-use Rattle.rules.specs.Events.{kindOf, isControl, notSupported, notToSet}
+use Rattle.rules.specs.Events.{notSupported, notToSet}
 use Rattle.rules.specs.Envelopes.{commandOf}
-use Rattle.rules.specs.Applets.{applet, ownedByAnother}
+use Rattle.rules.specs.Applets.{present, applet}
 use Rattle.rules.specs.Rows.{allMade, badText, notItsRow}
-use Rattle.rules.specs.Calls.{EntryCall, entry, newEntry, changeEntry, enableEntry, disableEntry, event, setEvent, clearEvent, askEvent, proactive, send}
-use Rattle.rules.specs.Refusals.{Line, line, lowest, lines, absent, entryLines, eventLines, proactiveLines, refusal}
+use Rattle.rules.specs.Calls.{EntryCall, entry, newEntry, changeEntry, enableEntry, disableEntry, proactive, send}
+use Rattle.rules.specs.Refusals.{Line, line, lowest, lines, absent, entryLines, proactiveLines, refusal}
 use Rattle.events.specs.Place.{placeOf}
-use Rattle.registry.specs.declared.Looked.{Looked}
-use Rattle.registry.specs.Looks.{lookedUp}
-use Rattle.registry.proofs.Table.{there-is, applet-is}
-use Rattle.refusals.specs.Sent.{sendRefusal}
+use Rattle.refusals.specs.Lines.{unfitText, sendRefusal}
 
 -- enable and disable
 abbrev pub turning : Bool → (applet identifier : ℕ) → EntryCall
@@ -62,53 +58,37 @@ unfolding lowest
 hand-room true n e z = absurd (omega arith)
 hand-room false n e z = ltb-false n 256 (unlined 18 (n <? 256) (λ h. absurd (omega arith)) (sym e ∙ z))
 
-module _ (m : Model) (n : ℕ) (x : Looked) (is : x ≡ lookedUp n (m .tables .applets)) where
+module _ (m : Model) (n : ℕ) {there : Bool} (found : there ≡ present (m .tables) n) where
   abbrev t : Tables
   t = m .tables
 
-  -- what the look-up says of the applet
-  pub text-is : (text : List ℕ) → badText (viewApplet (x .applet)) text ≡ badText (applet t n) text
-  unfolding badText viewApplet storedApplet
-  text-is text = ap (λ (a : held-applet.Applet). badText (viewApplet a) text) (applet-is t n x is)
-
-  made-is : (x .applet .entries ≤? x .applet .made) ≡ allMade (applet t n)
-  unfolding allMade storedApplet
-  made-is = ap (λ (a : held-applet.Applet). a .entries ≤? a .made) (applet-is t n x is)
-
   -- new, change, enable, disable entry
   pub new-refusal
-      : (help : Bool) (text : List ℕ) {r : ℕ}
-      → r ≡ lowest (line 2 (not (x .there)) ∷ line 10 (x .applet .entries ≤? x .applet .made) ∷ line 12 (badText (viewApplet (x .applet)) text) ∷ [])
+      : (help : Bool) (text : List ℕ) {entries made limit r : ℕ} {fits : Bool}
+      → entries ≡ length (applet t n .limits .pairs)
+      → made ≡ applet t n .made
+      → limit ≡ applet t n .limits .text
+      → fits ≡ not (unfitText limit text)
+      → r ≡ lowest (line 2 (not there) ∷ line 10 (entries ≤? made) ∷ line 12 (not fits) ∷ [])
       → r ≡ refusal m (entry (newEntry n help text))
-  unfolding refusal lines entryLines absent
-  new-refusal help text e = e ∙ rw (there-is t n x is, made-is, text-is text) refl
+  unfolding refusal lines entryLines absent allMade badText
+  new-refusal help text p q s f e = e ∙ rw (found, p, q, f, ← not-not (unfitText _ text), s) refl
 
   pub change-refusal
-      : (i : ℕ) (help : Bool) (text : List ℕ) {r : ℕ}
-      → r ≡ lowest (line 2 (not (x .there)) ∷ line 11 (notItsRow n i (t .rows)) ∷ line 12 (badText (viewApplet (x .applet)) text) ∷ [])
+      : (i : ℕ) (help : Bool) (text : List ℕ) {limit r : ℕ} {its fits : Bool}
+      → its ≡ not (notItsRow n i (t .rows))
+      → limit ≡ applet t n .limits .text
+      → fits ≡ not (unfitText limit text)
+      → r ≡ lowest (line 2 (not there) ∷ line 11 (not its) ∷ line 12 (not fits) ∷ [])
       → r ≡ refusal m (entry (changeEntry n i help text))
-  unfolding refusal lines entryLines absent
-  change-refusal i help text e = e ∙ rw (there-is t n x is, text-is text) refl
+  unfolding refusal lines entryLines absent badText
+  change-refusal i help text o s f e = e ∙ rw (found, o, ← not-not (notItsRow n i (t .rows)), f, ← not-not (unfitText _ text), s) refl
 
-  pub turn-refusal : (i : ℕ) (on : Bool) {r : ℕ} → r ≡ lowest (line 2 (not (x .there)) ∷ line 11 (notItsRow n i (t .rows)) ∷ []) → r ≡ refusal m (entry (turning on n i))
+  pub turn-refusal : (i : ℕ) (on : Bool) {its : Bool} {r : ℕ} → its ≡ not (notItsRow n i (t .rows)) → r ≡ lowest (line 2 (not there) ∷ line 11 (not its) ∷ []) → r ≡ refusal m (entry (turning on n i))
   unfolding absent
-  turn-refusal i on e = e ∙ rw (there-is t n x is) refl ∙ sym (turn-lines m n i on)
-
-  -- set, clear, ask event
-  module _ (v : ℤ) (k : Kind) (known : k ≡ kindOf v) {r : ℕ} where
-    pub ask-refusal : r ≡ eventRefusal (x .there) k [] → r ≡ refusal m (event (askEvent n v))
-    unfolding refusal lines eventLines absent
-    ask-refusal e = e ∙ rw (there-is t n x is, known) refl
-
-    pub clear-refusal : r ≡ eventRefusal (x .there) k [] → r ≡ refusal m (event (clearEvent n v))
-    unfolding refusal lines eventLines absent
-    clear-refusal e = e ∙ rw (there-is t n x is, known) refl
-
-    pub set-refusal : r ≡ eventRefusal (x .there) k (line 9 (isControl k && (not (t .control == 0) && not (t .control == n))) ∷ []) → r ≡ refusal m (event (setEvent n v))
-    unfolding refusal lines eventLines absent ownedByAnother
-    set-refusal e = e ∙ rw (there-is t n x is, known) refl
+  turn-refusal i on o e = e ∙ rw (found, o, ← not-not (notItsRow n i (t .rows))) refl ∙ sym (turn-lines m n i on)
 
   -- send
-  pub send-is : (bytes : List ℕ) {k : Command} {r : ℕ} → k ≡ commandOf bytes → r ≡ sendRefusal t n (x .there) (m .desk .outstanding) k → r ≡ refusal m (proactive (send n bytes))
+  pub send-is : (bytes : List ℕ) {k : Command} {r : ℕ} → k ≡ commandOf bytes → r ≡ sendRefusal t n there (m .desk .outstanding) k → r ≡ refusal m (proactive (send n bytes))
   unfolding sendRefusal refusal lines proactiveLines absent
-  send-is bytes says e = e ∙ rw (there-is t n x is, says) refl
+  send-is bytes says e = e ∙ rw (found, says) refl

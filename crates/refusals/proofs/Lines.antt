@@ -6,53 +6,37 @@ use mathlib.Core.Path.{_≡_, refl, sym, ap, _∙_}
 use mathlib.Core.Bool.{Bool, true, false, not}
 use mathlib.Core.List.{List, [], _∷_}
 use lib.ListN.{length}
-use borrow.Author.Tests.{eq-eqb, ne-eqb, lt-ltb, le-ltb, not-true, not-false}
-use Rattle.lists.specs.Tests.{if_then_else_, _==_}
-use Rattle.lists.proofs.Truth.{or-true}
-use Rattle.rules.specs.declared.Applet as held-applet
+use borrow.Author.Tests.{eq-eqb, ne-eqb, ltb-true, ltb-false, le-leb, lt-leb}
+use Rattle.lists.specs.Tests.{if_then_else_, _==_, _<?_, _≤?_}
 use Rattle.rules.specs.declared.Command.{Command}
 use Rattle.rules.specs.declared.Command.the-variants.{Plain, Timer, Malformed}
 use Rattle.rules.specs.declared.Kind.{Kind}
 use Rattle.rules.specs.Holds.{Tables}
-use Rattle.rules.specs.Held.{viewApplet}
 use Rattle.rules.specs.Events.{notSupported, notToSet}
 use Rattle.rules.specs.Envelopes.{badCommand, systemType}
 use Rattle.rules.specs.Timers.{ownerOf, notItsTimer}
-use Rattle.rules.specs.Rows.{badText}
 use Rattle.rules.specs.Refusals.{Line, line, lowest, foreignTimer}
-use Rattle.refusals.specs.Sent.{sendRefusal}
+use Rattle.refusals.specs.Lines.{unfitText, sendRefusal}
 
 -- ENTRIES
 -- before the text: the applet is not there, or the line k holds
 abbrev early : (k : ℕ) (there holds : Bool) → ℕ
 early k there holds = lowest (line 2 (not there) ∷ line k holds ∷ [])
 
-pub row-own : (there other : Bool) {its : Bool} → not there ≡ false → its ≡ not other → its ≡ true → 0 ≡ early 11 there other
-unfolding lowest
-row-own there other a e h = rw (a, not-true other (sym e ∙ h)) refl
-
-pub row-other : (there other : Bool) {its : Bool} → not there ≡ false → its ≡ not other → its ≡ false → 11 ≡ early 11 there other
-unfolding lowest
-row-other there other a e h = rw (a, not-false other (sym e ∙ h)) refl
-
 abbrev textRefusal : (before : ℕ) (bad : Bool) → ℕ
 textRefusal before bad = if before == 0 then (if bad then 12 else 0) else before
 
-pub text-stopped : (before : ℕ) (bad : Bool) → (before ≡ 0 → ⊥) → before ≡ textRefusal before bad
-text-stopped before bad z = rw (ne-eqb before 0 z) refl
+-- whether the text fits
+module _ (limit : ℕ) (text : List ℕ) where
+  pub text-empty : length text ≡ 0 → false ≡ not (unfitText limit text)
+  text-empty h = rw (eq-eqb (length text) 0 h) refl
 
-module _ {before : ℕ} (a : held-applet.Applet) (text : List ℕ) (e : before ≡ 0) where
-  pub text-empty : length text ≡ 0 → 12 ≡ textRefusal before (badText (viewApplet a) text)
-  unfolding badText
-  text-empty h = rw (e, eq-eqb (length text) 0 h) refl
-
-  pub text-long : a .text < length text → 12 ≡ textRefusal before (badText (viewApplet a) text)
-  unfolding badText viewApplet
-  text-long h = rw (e, lt-ltb (a .text) (length text) h, or-true (length text == 0)) refl
-
-  pub text-fits : (length text ≡ 0 → ⊥) → length text ≤ a .text → 0 ≡ textRefusal before (badText (viewApplet a) text)
-  unfolding badText viewApplet
-  text-fits z h = rw (e, ne-eqb (length text) 0 z, le-ltb (a .text) (length text) h) refl
+  pub text-within : (length text ≡ 0 → ⊥) → (length text ≤? limit) ≡ not (unfitText limit text)
+  text-within z = rw (ne-eqb (length text) 0 z) (go (limit <? length text) refl)
+    where
+      go : (b : Bool) → (limit <? length text) ≡ b → (length text ≤? limit) ≡ not b
+      go true e = let h = ltb-true limit (length text) e in lt-leb (length text) limit h
+      go false e = let h = ltb-false limit (length text) e in le-leb (length text) limit h
 
 -- the text is the last line
 three-lines : (k : ℕ) → (k == 0) ≡ false → (there holds bad : Bool) → textRefusal (early k there holds) bad ≡ lowest (line 2 (not there) ∷ line k holds ∷ line 12 bad ∷ [])

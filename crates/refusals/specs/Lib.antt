@@ -1,2 +1,2 @@
--- The refusal of send.
-pub mod Sent
+-- Lines of the table, by what was looked up.
+pub mod Lines

@@ -1,11 +1,9 @@
 // What a call of the card is refused for: the lowest line of document 01's table that holds, or 0 where none does.
-// Each takes what was looked up and not the card; the lines of install stand in crate install, those of the bank in timers.
-use rules::Applet;
+// Each takes what was looked up and not the card; the lines of install stand in crate admission, those of the bank in timers.
 use rules::Bank;
 use rules::Command;
 use rules::Desk;
 use rules::Kind;
-use rules::Rows;
 ghost use mathlib.Core.Path.{_≡_};
 ghost use mathlib.Core.Bool.{not, _&&_};
 ghost use mathlib.Core.List.{[], _∷_};
@@ -15,10 +13,8 @@ ghost use Rattle.rules.specs.declared.Command.the-variants.{Plain};
 ghost use Rattle.rules.specs.Holds.{Tables};
 ghost use Rattle.rules.specs.Events.{isControl, notSupported, notToSet};
 ghost use Rattle.rules.specs.Envelopes.{systemType};
-ghost use Rattle.rules.specs.Rows.{notItsRow, badText};
-ghost use Rattle.rules.specs.Held.{viewApplet, viewRows, TidyRows};
 ghost use Rattle.rules.specs.Refusals.{line, lowest};
-ghost use Rattle.refusals.specs.Sent.{sendRefusal};
+ghost use Rattle.refusals.specs.Lines.{unfitText, sendRefusal};
 
 // Of a fresh card: the title is over 20 bytes.
 pub fn title_refusal(title: &[u8]) -> u8
@@ -69,73 +65,64 @@ pub fn refusal_to_set(there: bool, kind: Kind, control: u8, number: u8) -> u8
 }
 
 // Of enable and disable entry: there is no such applet, or the row is not its own.
-pub fn row_refusal(there: bool, rows: Rows, applet: u8, identifier: u8) -> u8
-    requires { ⌜ TidyRows rows ⌝ }
-    ensures { λ r. ⌜ r ≡ lowest (line 2 (not there) ∷ line 11 (notItsRow applet identifier (viewRows rows)) ∷ []) ⌝ }
+pub fn row_refusal(there: bool, its: bool) -> u8
+    ensures { λ r. ⌜ r ≡ lowest (line 2 (not there) ∷ line 11 (not its) ∷ []) ⌝ }
 {
     if !there {
         return 2;
     }
-    let its = rows::is_its_row(rows, applet, identifier);
-    if its {
-        return 0;
-    }
-    11
+    if its { 0 } else { 11 }
 }
 
-// Of a text of the applet, where nothing before it is refused.
-fn text_refusal(before: u8, applet: Applet, text: &[u8]) -> u8
-    ensures { λ r. ⌜ r ≡ (if before == 0 then (if badText (viewApplet applet) (now (text .entry)) then 12 else 0) else before) ⌝ }
+// Whether an entry of the applet may have the text: it is not empty, and within the applet's limit.
+pub fn fits(limit: u8, text: &[u8]) -> bool
+    ensures { λ r. ⌜ r ≡ not (unfitText limit (now (text .entry))) ⌝ }
+{
+    let n = text.len();
+    if n == 0 {
+        return false;
+    }
+    let most = limit as usize;
+    n <= most
+}
+
+// Of a text, where nothing before it is refused.
+fn text_refusal(before: u8, fits: bool) -> u8
+    ensures { λ r. ⌜ r ≡ (if before == 0 then (if not fits then 12 else 0) else before) ⌝ }
 {
     if before != 0 {
         return before;
     }
-    let n = text.len();
-    if n == 0 {
-        return 12;
-    }
-    let most = applet.text as usize;
-    if most < n {
-        return 12;
-    }
-    0
+    if fits { 0 } else { 12 }
 }
 
-// Of change entry: the same as of enable, or the text is empty or over the applet's limit.
-pub fn change_refusal(
-    there: bool,
-    applet: Applet,
-    rows: Rows,
-    number: u8,
-    identifier: u8,
-    text: &[u8],
-) -> u8
-    requires { ⌜ TidyRows rows ⌝ }
-    ensures { λ r. ⌜ r ≡ lowest (line 2 (not there) ∷ line 11 (notItsRow number identifier (viewRows rows)) ∷ line 12 (badText (viewApplet applet) (now (text .entry))) ∷ []) ⌝ }
+// Of change entry: the same as of enable, or the text does not fit.
+pub fn change_refusal(there: bool, its: bool, fits: bool) -> u8
+    ensures { λ r. ⌜ r ≡ lowest (line 2 (not there) ∷ line 11 (not its) ∷ line 12 (not fits) ∷ []) ⌝ }
 {
-    let before = row_refusal(there, rows, number, identifier);
-    text_refusal(before, applet, text)
+    let before = row_refusal(there, its);
+    text_refusal(before, fits)
 }
 
 // Of a new entry, but for its text: there is no such applet, or all its entries are made.
-fn made_refusal(there: bool, applet: Applet) -> u8
-    ensures { λ r. ⌜ r ≡ lowest (line 2 (not there) ∷ line 10 (applet .entries ≤? applet .made) ∷ []) ⌝ }
+fn made_refusal(there: bool, entries: u8, made: u8) -> u8
+    ensures { λ r. ⌜ r ≡ lowest (line 2 (not there) ∷ line 10 (entries ≤? made) ∷ []) ⌝ }
 {
     if !there {
         return 2;
     }
-    if applet.entries <= applet.made {
+    if entries <= made {
         return 10;
     }
     0
 }
 
 // Of a new entry.
-pub fn new_refusal(there: bool, applet: Applet, text: &[u8]) -> u8
-    ensures { λ r. ⌜ r ≡ lowest (line 2 (not there) ∷ line 10 (applet .entries ≤? applet .made) ∷ line 12 (badText (viewApplet applet) (now (text .entry))) ∷ []) ⌝ }
+pub fn new_refusal(there: bool, entries: u8, made: u8, fits: bool) -> u8
+    ensures { λ r. ⌜ r ≡ lowest (line 2 (not there) ∷ line 10 (entries ≤? made) ∷ line 12 (not fits) ∷ []) ⌝ }
 {
-    let before = made_refusal(there, applet);
-    text_refusal(before, applet, text)
+    let before = made_refusal(there, entries, made);
+    text_refusal(before, fits)
 }
 
 // Whether commands of a type are the system's own.

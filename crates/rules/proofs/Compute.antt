@@ -60,7 +60,7 @@ unfolding commands′.selectable commands′.shownMenu commands′.listened comm
 openCommands = tt
 
 unfoldable pub openDesk : Unit {0}
-unfolding desk′.sameRow? desk′.menuChanges desk′.eventsChange desk′.marked desk′.withProfile desk′.dueCommand desk′.withHandedOut
+unfolding desk′.sameRow? desk′.menuChanges desk′.eventsChange desk′.changes desk′.either desk′.marked desk′.shownSome desk′.withProfile desk′.isDue desk′.handedOut desk′.commandFor desk′.dueMatters desk′.firstCommand desk′.dueCommand desk′.withFirst desk′.withHandedOut
 openDesk = tt
 
 unfoldable pub openRefusals : Unit {0}
@@ -84,7 +84,7 @@ unfolding floor′.letters floor′.signed floor′.requestOf floor′.orderBy f
 openFloor = tt
 
 unfoldable pub openHeld : Unit {0}
-unfolding held′.viewApplet held′.storedApplet held′.viewApplets held′.storedApplets held′.viewRow held′.storedRow held′.viewRows held′.storedRows held′.viewDesk held′.storedDesk held′.storedItem held′.storedMenu
+unfolding held′.viewRow held′.storedRow held′.viewRows held′.storedRows held′.viewDesk held′.storedDesk held′.storedItem held′.storedMenu
 openHeld = tt
 
 unfoldable pub openPapers : Unit {0}

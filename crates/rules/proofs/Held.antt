@@ -7,15 +7,8 @@ use lib.ListN.{length, take}
 use Rattle.lists.specs.Lists.{padded}
 use Rattle.lists.proofs.Padded.{take-padded}
 use Rattle.lists.proofs.Mapped.{map-length}
-use Rattle.rules.specs.Holds.{Applet, Row, Desk}
-use Rattle.rules.specs.Applets.{nobody}
-use Rattle.rules.specs.Rows.{noPair}
-use Rattle.rules.specs.Held.{viewApplet, storedApplet, viewApplets, storedApplets, viewRow, storedRow, noRow, viewRows, storedRows, viewDesk, storedDesk}
-
-map-applets : (l : List Applet) → map viewApplet (map storedApplet l) ≡ l
-unfolding viewApplet storedApplet
-map-applets [] = refl
-map-applets (x ∷ l) = rw (take-padded 4 noPair (x .limits .pairs), map-applets l) refl
+use Rattle.rules.specs.Holds.{Row, Desk}
+use Rattle.rules.specs.Held.{viewRow, storedRow, noRow, viewRows, storedRows, viewDesk, storedDesk}
 
 map-rows : (l : List Row) → map viewRow (map storedRow l) ≡ l
 unfolding viewRow storedRow
@@ -25,10 +18,6 @@ map-rows (x ∷ l) = rw (take-padded 15 0 (x .text), map-rows l) refl
 -- the list comes back out of the array that stands for the pictures of its elements
 back : {A B : Type 0} (cap : ℕ) (blank : B) (f : A → B) (l : List A) → take (length l) (padded cap blank (map f l)) ≡ map f l
 back cap blank f l = ap (λ (n : ℕ). take n (padded cap blank (map f l))) (sym (map-length f l)) ∙ take-padded cap blank (map f l)
-
-pub applets-back : (l : List Applet) → viewApplets (storedApplets l) ≡ l
-unfolding viewApplets storedApplets
-applets-back l = ap (map viewApplet) (back 8 (storedApplet nobody) storedApplet l) ∙ map-applets l
 
 pub rows-back : (l : List Row) → viewRows (storedRows l) ≡ l
 unfolding viewRows storedRows

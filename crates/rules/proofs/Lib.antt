@@ -5,7 +5,7 @@ pub mod Worked
 pub mod AnnexD
 pub mod Refused
 pub mod Bounds
-pub mod Due
+pub mod DueMarks
 pub mod Held
 pub mod Reader
 pub mod Listed

@@ -6,55 +6,14 @@ use mathlib.Core.Bool.{false}
 use mathlib.Core.List.{List, [], map}
 use lib.ListN.{length, take}
 use Rattle.lists.specs.Lists.{padded}
-use Rattle.rules.specs.declared.Applet as held-applet
 use Rattle.rules.specs.declared.Row as held-row
 use Rattle.rules.specs.declared.Desk as held-desk
 use Rattle.rules.specs.declared.Item as held-item
 use Rattle.rules.specs.declared.Menu as held-menu
-use Rattle.rules.specs.declared.Applets.{Applets}
 use Rattle.rules.specs.declared.Rows.{Rows}
-use Rattle.rules.specs.Holds.{Applet, Row, Desk}
-use Rattle.rules.specs.Applets.{nobody}
-use Rattle.rules.specs.Rows.{noPair}
+use Rattle.rules.specs.Holds.{Row, Desk}
 use Rattle.rules.specs.Commands.{Item}
 use Rattle.rules.specs.Beside.{ReadOutcome}
-
-unfoldable pub viewApplet : held-applet.Applet → Applet
-viewApplet x =
-    record {
-      number = x .number;
-      priority = x .priority;
-      limits = record { timers = x .timers; text = x .text; pairs = take (x .entries) (x .pairs) };
-      made = x .made;
-      selectable = x .selectable;
-      events = x .events;
-    }
-
-unfoldable pub storedApplet : Applet → held-applet.Applet
-storedApplet x =
-    record {
-      number = x .number;
-      priority = x .priority;
-      timers = x .limits .timers;
-      entries = length (x .limits .pairs);
-      text = x .limits .text;
-      made = x .made;
-      selectable = x .selectable;
-      pairs = padded 4 noPair (x .limits .pairs);
-      events = x .events;
-    }
-
--- the applets, in order of installation
-unfoldable pub viewApplets : Applets → List Applet
-viewApplets s = map viewApplet (take (s .count) (s .at))
-
-unfoldable pub storedApplets : List Applet → Applets
-storedApplets l = record { at = padded 8 (storedApplet nobody) (map storedApplet l); count = length l }
-
--- the table stands in its one form
-pub record TidyApplets (s : Applets) : Type 0 where
-  pub few : s .count ≤ 8
-  pub form : s ≡ storedApplets (viewApplets s)
 
 unfoldable pub viewRow : held-row.Row → Row
 viewRow r =
@@ -93,20 +52,18 @@ viewDesk d =
       profile = d .profile;
       session = d .session;
       outstanding = d .outstanding;
-      menuDue = d .«menu_due»;
-      eventsDue = d .«events_due»;
+      due = d .due;
     }
 
 unfoldable pub storedDesk : Desk → held-desk.Desk
 storedDesk d =
     record {
-      title = padded 20 0 (d .title);
-      «title_len» = length (d .title);
-      profile = d .profile;
+      due = d .due;
       session = d .session;
       outstanding = d .outstanding;
-      «menu_due» = d .menuDue;
-      «events_due» = d .eventsDue;
+      «title_len» = length (d .title);
+      title = padded 20 0 (d .title);
+      profile = d .profile;
     }
 
 -- the same for what the menu reader hands back

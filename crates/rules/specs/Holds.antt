@@ -4,6 +4,7 @@ use mathlib.Core.Bool.{Bool, false}
 use mathlib.Core.List.{List, []}
 use lib.ListN.{replicate, set}
 use Rattle.rules.specs.declared.Pair.{Pair}
+use Rattle.rules.specs.declared.Due.{Due}
 
 -- What an applet may have: its limits, as it was installed with them.
 pub record Limits : Type 0 where
@@ -55,20 +56,22 @@ pub record Desk : Type 0 where
   pub profile : List ℕ  -- the first 32 bytes of the terminal profile
   pub session : Bool  -- a CAT session has begun
   pub outstanding : Bool  -- a proactive command is outstanding
-  pub menuDue : Bool
-  pub eventsDue : Bool
+  pub due : Due  -- the due marks: menu and event list
 
 -- THE CARD.
 pub record Model : Type 0 where
   pub tables : Tables
   pub desk : Desk
 
+abbrev pub nothingDue : Due
+nothingDue = record { menu = false; events = false }
+
 -- a card with this title on which no call was made
 abbrev pub fresh : Bounds → List ℕ → Model
 fresh b title =
     record {
       tables = record { bounds = b; applets = []; rows = []; timers = replicate (b .timers) 0; control = 0 };
-      desk = record { title = title; profile = replicate 32 0; session = false; outstanding = false; menuDue = false; eventsDue = false };
+      desk = record { title = title; profile = replicate 32 0; session = false; outstanding = false; due = nothingDue };
     }
 
 -- Copies with one part changed.

@@ -14,38 +14,36 @@ pub struct Request {
     pub timers: u8,
     pub entries: u8,
     pub text: u8,
-    pub pairs: [Pair; Applet::ENTRIES],
+    pub pairs: [Pair; Grant::ENTRIES],
 }
 
-// An applet: what it was installed with, how many of its entries are made, whether it is selectable, and its registrations.
+// What an applet was installed with: its priority and its limits, and a pair for each entry.
 #[repr(C)]
-pub struct Applet {
-    pub number: u8,
+pub struct Grant {
     pub priority: u8,
     pub timers: u8,
-    pub entries: u8,
     pub text: u8,
-    pub made: u8,
-    pub selectable: bool,
-    pub pairs: [Pair; Applet::ENTRIES],
-    pub events: [bool; Applet::EVENTS],
+    pub entries: u8,
+    pub pairs: [Pair; Grant::ENTRIES],
 }
 
-impl Applet {
+impl Grant {
     pub const ENTRIES: usize = 4;
-
-    pub const EVENTS: usize = 20;
 }
 
-// The applets present, in order of installation.
+// What installs fix of the applets: the set of their numbers, these in order of installation and in order of call, and by
+// number what each was installed with.
 #[repr(C)]
-pub struct Applets {
-    pub at: [Applet; Applets::MOST],
+pub struct Roll {
+    pub present: u8,
     pub count: u8,
+    pub age: [u8; Roll::APPLETS],
+    pub order: [u8; Roll::APPLETS],
+    pub grants: [Grant; Roll::APPLETS],
 }
 
-impl Applets {
-    pub const MOST: usize = 8;
+impl Roll {
+    pub const APPLETS: usize = 8;
 }
 
 // A row of the menu list.
@@ -84,16 +82,22 @@ impl Bank {
     pub const TIMERS: usize = 8;
 }
 
+// What is due, in the order of handing out.
+#[repr(C)]
+pub struct Due {
+    pub menu: bool,
+    pub events: bool,
+}
+
 // The terminal's side of the card.
 #[repr(C)]
 pub struct Desk {
-    pub title: [u8; Desk::TITLE],
-    pub title_len: u8,
-    pub profile: [u8; Desk::PROFILE],
+    pub due: Due,
     pub session: bool,
     pub outstanding: bool,
-    pub menu_due: bool,
-    pub events_due: bool,
+    pub title_len: u8,
+    pub title: [u8; Desk::TITLE],
+    pub profile: [u8; Desk::PROFILE],
 }
 
 impl Desk {
@@ -112,6 +116,8 @@ pub enum Kind {
 
 // The places of the events.
 impl Kind {
+    pub const EVENTS: usize = 20;
+
     pub const PROFILE_DOWNLOAD: u8 = 0;
 
     pub const MENU_SELECTION: u8 = 1;
@@ -231,7 +237,7 @@ pub struct Marks {
 #[repr(C)]
 pub struct Called {
     pub refusal: u8,
-    pub at: [u8; Applets::MOST],
+    pub at: [u8; Roll::APPLETS],
     pub count: u8,
     pub marks: Marks,
 }

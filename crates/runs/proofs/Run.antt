@@ -15,7 +15,7 @@ use Rattle.lists.proofs.Counts.{count-replicate}
 use Rattle.lists.proofs.Padded.{length-padded}
 use Rattle.rules.specs.Holds.{Bounds, Tables, Desk, Model, document, fresh}
 use Rattle.rules.specs.Applets.{present, applet}
-use Rattle.rules.specs.Desk.{menuChanges, eventsChange, marked, withMarks, withProfile, withHandedOut}
+use Rattle.rules.specs.Desk.{Matter, changes, either, marked, withMarks, withProfile, dueMatters, withFirst, withHandedOut}
 use Rattle.rules.specs.Calls.{Call, admin, event, entry, timer, arrival, settled, proactive, systemCommand, envelope, profile, send, response}
 use Rattle.rules.specs.Refusals.{line, lowest, refusal}
 use Rattle.rules.specs.Step.{tablesAfter, arrivalDesk, proactiveDesk, deskAfter, changed, outcome, step}
@@ -81,13 +81,12 @@ lasts : (d : Desk) → Lasting d d
 lasts d = record { title = refl; profile = λ h. h }
 
 handed-lasts : (d : Desk) → Lasting d (withHandedOut d)
-unfolding withHandedOut
-handed-lasts d = go (d .menuDue) (d .eventsDue)
+unfolding withHandedOut withFirst
+handed-lasts d = go (dueMatters (d .due))
   where
-    go : (a b : Bool) → Lasting d (if a then withMarks d true false (d .eventsDue) else if b then withMarks d true false false else d)
-    go true b = record { title = refl; profile = λ h. h }
-    go false true = record { title = refl; profile = λ h. h }
-    go false false = lasts d
+    go : (l : List Matter) → Lasting d (withFirst d l)
+    go [] = lasts d
+    go (x ∷ l) = record { title = refl; profile = λ h. h }
 
 desk-lasts : (m : Model) (c : Call) → Lasting (m .desk) (deskAfter m c)
 unfolding deskAfter arrivalDesk proactiveDesk withProfile
@@ -105,11 +104,11 @@ desk-lasts m (systemCommand buffer) = handed-lasts (m .desk)
 
 marked-lasts : (before later : Tables) (d : Desk) → Lasting d (marked before later d)
 unfolding marked
-marked-lasts before later d = go (d .session) (d .menuDue || menuChanges before later) (d .eventsDue || eventsChange before later)
+marked-lasts before later d = go (d .session)
   where
-    go : (s x y : Bool) → Lasting d (if s then withMarks d (d .outstanding) x y else d)
-    go true x y = record { title = refl; profile = λ h. h }
-    go false x y = lasts d
+    go : (s : Bool) → Lasting d (if s then withMarks d (d .outstanding) (either (d .due) (changes before later)) else d)
+    go true = record { title = refl; profile = λ h. h }
+    go false = lasts d
 
 -- One call.
 changed-sound : (m : Model) (c : Call) → refusal m c ≡ 0 → Sound m → Sound (changed m c)

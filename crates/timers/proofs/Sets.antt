@@ -15,6 +15,7 @@ use lib.Pow.{pow-pos}
 use lib.Count.{ones, ones-step, trailingZeros, under}
 use Rattle.lists.specs.Tests.{if_then_else_, _==_}
 use Rattle.lists.specs.Lists.{count, run}
+use Rattle.lists.proofs.Bits.{trailing-more}
 use Rattle.timers.specs.Sets.{bit, isBetween, setOf}
 
 bit-lt : (b : Bool) → bit b < 2
@@ -67,16 +68,6 @@ module _ (p : ℕ → Bool) where
       let high : (bit (p o) + setOf p os * 2) / 2 ≡ setOf p os = omega (arith, bit-lt (p o)) in
       ones-step _ ∙ ap₂ (λ (x y : ℕ). x + ones y) low high ∙ ap (λ (n : ℕ). bit (p o) + n) (ones-count os) ∙ counted (p o) (count p os)
 
-  below : (b : Bool) (k s r : ℕ) → s < 2 ^ k → trailingZeros k (2 ^ k - 1 - s) ≡ r → trailingZeros (suc k) (2 ^ suc k - 1 - (bit b + s * 2)) ≡ (if b then suc r else 0)
-  unfolding trailingZeros
-  below true k s r h e =
-      let low : (2 ^ suc k - 1 - (1 + s * 2)) % 2 ≡ 0 = omega (arith, pow-suc 2 k) in
-      let high : (2 ^ suc k - 1 - (1 + s * 2)) / 2 ≡ 2 ^ k - 1 - s = omega (arith, pow-suc 2 k) in
-      ap₂ (λ (d n : ℕ). under d (trailingZeros k n)) low high ∙ ap suc e
-  below false k s r h e =
-      let low : (2 ^ suc k - 1 - (0 + s * 2)) % 2 ≡ 1 = omega (arith, pow-suc 2 k) in
-      ap (λ (d : ℕ). under d (trailingZeros k ((2 ^ suc k - 1 - (0 + s * 2)) / 2))) low
-
   -- as many low bits are set, up to the first that is clear, as elements at the front pass
   pub trailing-run : (k : ℕ) (l : List ℕ) → length l ≤ k → trailingZeros k (2 ^ k - 1 - setOf p l) ≡ run p l
   unfolding setOf run trailingZeros
@@ -87,7 +78,7 @@ module _ (p : ℕ → Bool) where
       ap (λ (d : ℕ). under d (trailingZeros k ((2 ^ suc k - 1 - 0) / 2))) low
   trailing-run (suc k) (o ∷ os) h =
       let fits = le-of-suc-le-suc h in
-      below (p o) k (setOf p os) (run p os) (set-lt os k fits) (trailing-run k os fits)
+      trailing-more (p o) k (setOf p os) (run p os) (set-lt os k fits) (trailing-run k os fits)
 
   pub run-le : (l : List ℕ) → run p l ≤ length l
   unfolding run

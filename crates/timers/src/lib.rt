@@ -6,13 +6,13 @@ ghost use Rattle.rules.specs.Applets.{forget};
 ghost use Rattle.rules.specs.Timers.{lowestFree, atLimit, ownerOf, withoutTimers};
 ghost use Rattle.timers.specs.Sets.{bit, isBetween, setOf};
 ghost use Rattle.timers.specs.Promises.{Allocates, Releases};
-use rules::Applets;
 use rules::Bank;
 use rules::Done;
 use rules::Given;
+use rules::Roll;
 
 // The last applet number, and the last timer.
-const LAST_APPLET: u8 = Applets::MOST as u8;
+const LAST_APPLET: u8 = Roll::APPLETS as u8;
 
 const LAST_TIMER: u8 = Bank::TIMERS as u8;
 

@@ -1,14 +1,14 @@
--- A fresh card and the handler's content, as a caller in C gets them.
+-- A fresh card, the handler's content and a call on the bank alone, as a caller in C gets them.
 -- Assumes nothing.
 use Prim.Native.Nat.{ℕ, zero, suc, _-_}
-use mathlib.Core.Path.{_≡_, refl}
+use mathlib.Core.Path.{_≡_, refl, ap, _∙_}
 use mathlib.Core.Bool.{true}
 use mathlib.Core.List.{List}
 use lib.Dec.{eqb·suc-zero}
 use lib.ListN.{length}
 use Rattle.rules.specs.Envelopes.{contentOf}
-use Rattle.rules.specs.Beside.{FreshOutcome}
-use Rattle.rules.specs.Calls.{only}
+use Rattle.rules.specs.Beside.{FreshOutcome, BankOutcome}
+use Rattle.rules.specs.Calls.{Answer as PaperAnswer, only}
 use Rattle.rules.specs.Papers.{paperDone}
 use Rattle.card.specs.declared.Changed.{Changed}
 use Rattle.card.specs.Reply.{doneOf, madeBy}
@@ -32,3 +32,6 @@ module _ (o : FreshOutcome) {made : Changed} {a : Answer} where
 pub content-is : (b : List ℕ) {part : List ℕ} → part ≡ contentOf b → _≡_ {A = Spot} (record { start = length b - length part; len = length part; there = true }) (contentSpot b)
 unfolding contentSpot
 content-is b e = rw e refl
+
+pub on-bank : {b : List ℕ} {a : PaperAnswer} {o : BankOutcome} {w : Answer} → _≡_ {A = BankOutcome} (record { owners = b; answer = a }) o → w ≡ storedAnswer a → (b ≡ o .owners) × (w ≡ storedAnswer (o .answer))
+on-bank e p = (ap (λ (o : BankOutcome). o .owners) e, p ∙ ap (λ (o : BankOutcome). storedAnswer (o .answer)) e)

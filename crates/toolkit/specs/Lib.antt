@@ -1,2 +1,3 @@
--- What a caller in C gets of the calls beside the card.
+-- What a caller in C gets of the calls on a card, and of those beside it.
+pub mod Does
 pub mod Beside

@@ -1,5 +1,7 @@
-// What C links: one door for every call of the card, and doors for a fresh card, the readers and the timer bank alone.
+// What C links: a door for each call of a card, and doors for a fresh card, the readers and the timer bank alone.
 // include/toolkit.h says the same to a C programmer; a card and a bank are lent by their owner and changed where they stand.
+mod calls;
+
 use card::Card;
 use paper::Answer;
 use rules::Bank;
@@ -10,11 +12,7 @@ ghost use Rattle.rules.specs.Holds.{document};
 ghost use Rattle.rules.specs.Held.{storedMenu};
 ghost use Rattle.rules.specs.Bytes.{found};
 ghost use Rattle.rules.specs.Beside.{freshCard, menuReader};
-ghost use Rattle.card.specs.View.{view, Left};
-ghost use Rattle.asks.specs.Asks.{asked};
-ghost use Rattle.port.specs.Posts.{posted, Posts};
-ghost use Rattle.paper.specs.Answers.{Allots, Frees};
-ghost use Rattle.toolkit.specs.Beside.{madeOf, spotOf, contentSpot};
+ghost use Rattle.toolkit.specs.Beside.{madeOf, spotOf, contentSpot, Allots, Frees};
 
 // A fresh card, and the refusal's number (0: none).
 #[repr(C)]
@@ -44,24 +42,6 @@ pub extern "C" fn toolkit_fresh(title: &[u8]) -> Made
         card,
         refusal: answer.refusal,
     }
-}
-
-// Makes the call that a code, an applet and bytes ask for; a lent buffer takes the system command.
-#[no_mangle]
-pub extern "C" fn toolkit_call(
-    card: &mut Card,
-    code: u8,
-    applet: u8,
-    bytes: &[u8],
-    out: &mut [u8],
-) -> Answer
-    requires { ⌜ Left (now card) ⌝ }
-    ensures { λ r. ⌜ Posts (posted (view (now (card .entry))) (asked code applet (now (bytes .entry)) (now (out .entry))) (now (out .entry))) (now (out .exit)) (now (card .exit)) r ⌝ }
-{
-    let before = *card;
-    let after = port::call(before, code, applet, bytes, out);
-    *card = after.card;
-    after.answer
 }
 
 // Where the value of an element stands in a run.
@@ -108,22 +88,16 @@ pub extern "C" fn toolkit_read_menu(bytes: &[u8]) -> Menu
 
 // Gives an applet the lowest free timer of a bank.
 #[no_mangle]
-pub extern "C" fn toolkit_allocate(bank: &mut Bank, applet: u8, limit: u8) -> Answer
+pub extern "C" fn toolkit_bank_allocate(bank: &mut Bank, applet: u8, limit: u8) -> Answer
     ensures { λ r. ⌜ Allots (now (bank .entry)) applet limit r (now (bank .exit)) ⌝ }
 {
-    let before = *bank;
-    let after = paper::allocate(before, applet, limit);
-    *bank = after.bank;
-    after.answer
+    paper::of_given(lent::allocate_in(bank, applet, limit))
 }
 
 // Frees a timer of an applet in a bank.
 #[no_mangle]
-pub extern "C" fn toolkit_release(bank: &mut Bank, applet: u8, timer: u8) -> Answer
+pub extern "C" fn toolkit_bank_release(bank: &mut Bank, applet: u8, timer: u8) -> Answer
     ensures { λ r. ⌜ Frees (now (bank .entry)) applet timer r (now (bank .exit)) ⌝ }
 {
-    let before = *bank;
-    let after = paper::release(before, applet, timer);
-    *bank = after.bank;
-    after.answer
+    paper::of_done(lent::release_in(bank, applet, timer))
 }

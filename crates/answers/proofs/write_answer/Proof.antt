@@ -23,20 +23,14 @@ write-gift-requires c κs = search needs
 enum-told-2 : tie.Need-enum-told-2
 enum-told-2 c = search needs
 
-write-plain-requires-2 : tie.Need-write-plain-requires-2
-write-plain-requires-2 c κs = search needs
+write-called-requires : tie.Need-write-called-requires
+write-called-requires c κs = search needs
 
 enum-told-3 : tie.Need-enum-told-3
 enum-told-3 c = search needs
 
-write-called-requires : tie.Need-write-called-requires
-write-called-requires c κs = search needs
-
-enum-told-4 : tie.Need-enum-told-4
-enum-told-4 c = search needs
-
-write-plain-requires-3 : tie.Need-write-plain-requires-3
-write-plain-requires-3 c κs = search needs
+write-plain-requires-2 : tie.Need-write-plain-requires-2
+write-plain-requires-2 c κs = search needs
 
 same-length : tie.Need-same-length
 same-length c = search needs
@@ -64,34 +58,23 @@ same-length-3 : tie.Need-same-length-3
 same-length-3 c = search needs
 
 returns-3 : tie.Need-returns-3
-unfolding lineBy refusalText
+unfolding lineBy
 returns-3 c k e =
     let p = c .before .before in
     let m = p .before .before in
     let s = m .before .before .before .before .before in
-    wrote-of (λ (a : Ask). lineBy k (s .args .letter) a (s .args .answer) (s .args .out .now)) (m .enum-told2 .given .1) (p .write-plain2 .ensures k e)
+    wrote-of (λ (a : Ask). lineBy k (s .args .letter) a (s .args .answer) (s .args .out .now)) (m .enum-told2 .given .1) (p .write-called .ensures k e)
 
 same-length-4 : tie.Need-same-length-4
 same-length-4 c = search needs
 
 returns-4 : tie.Need-returns-4
-unfolding lineBy
+unfolding lineBy refusalText
 returns-4 c k e =
     let p = c .before .before in
     let m = p .before .before in
     let s = m .before .before .before .before .before in
-    wrote-of (λ (a : Ask). lineBy k (s .args .letter) a (s .args .answer) (s .args .out .now)) (m .enum-told3 .given .1) (p .write-called .ensures k e)
-
-same-length-5 : tie.Need-same-length-5
-same-length-5 c = search needs
-
-returns-5 : tie.Need-returns-5
-unfolding lineBy refusalText
-returns-5 c k e =
-    let p = c .before .before in
-    let m = p .before .before in
-    let s = m .before .before .before .before .before in
-    wrote-of (λ (a : Ask). lineBy k (s .args .letter) a (s .args .answer) (s .args .out .now)) (m .enum-told4 .given .1) (p .write-plain3 .ensures k e)
+    wrote-of (λ (a : Ask). lineBy k (s .args .letter) a (s .args .answer) (s .args .out .now)) (m .enum-told3 .given .1) (p .write-plain2 .ensures k e)
 
 pub write-answer-spec : {M : Type 1} → statement M
 write-answer-spec =
@@ -102,11 +85,9 @@ write-answer-spec =
     enum-known-ask
     write-gift-requires
     enum-told-2
-    write-plain-requires-2
-    enum-told-3
     write-called-requires
-    enum-told-4
-    write-plain-requires-3
+    enum-told-3
+    write-plain-requires-2
     same-length
     returns
     same-length-2
@@ -114,6 +95,4 @@ write-answer-spec =
     same-length-3
     returns-3
     same-length-4
-    returns-4
-    same-length-5
-    returns-5)
+    returns-4)

@@ -29,71 +29,33 @@ enum-told-6 c = search needs
 enum-told-7 : tie.Need-enum-told-7
 enum-told-7 c = search needs
 
-marks-help-requires : tie.Need-marks-help-requires
-marks-help-requires c κs = search needs
-
-enum-told-8 : tie.Need-enum-told-8
-enum-told-8 c = search needs
-
-enum-told-9 : tie.Need-enum-told-9
-enum-told-9 c = search needs
-
-enum-told-10 : tie.Need-enum-told-10
-enum-told-10 c = search needs
-
-enum-told-11 : tie.Need-enum-told-11
-enum-told-11 c = search needs
-
-enum-told-12 : tie.Need-enum-told-12
-enum-told-12 c = search needs
-
 returns : tie.Need-returns
 unfolding deedFits
-returns c = fit-as deedFits (now (c .before .before .before .args .bytes)) (c .enum-told .given .1) refl
+returns c = fit-as deedFits (now (c .before .before .args .bytes)) (c .enum-told .given .1) refl
 
 returns-2 : tie.Need-returns-2
 unfolding deedFits
-returns-2 c = fit-as deedFits (now (c .before .before .before .args .bytes)) (c .enum-told2 .given .1) refl
+returns-2 c = fit-as deedFits (now (c .before .before .args .bytes)) (c .enum-told2 .given .1) refl
 
 returns-3 : tie.Need-returns-3
 unfolding deedFits
-returns-3 c = fit-as deedFits (now (c .before .before .before .args .bytes)) (c .enum-told3 .given .1) refl
+returns-3 c = fit-as deedFits (now (c .before .before .args .bytes)) (c .enum-told3 .given .1) refl
 
 returns-4 : tie.Need-returns-4
 unfolding deedFits
-returns-4 c = fit-as deedFits (now (c .before .before .before .args .bytes)) (c .enum-told4 .given .1) refl
+returns-4 c = fit-as deedFits (now (c .before .before .args .bytes)) (c .enum-told4 .given .1) refl
 
 returns-5 : tie.Need-returns-5
 unfolding deedFits
-returns-5 c = fit-as deedFits (now (c .before .before .before .args .bytes)) (c .enum-told5 .given .1) refl
+returns-5 c = fit-as deedFits (now (c .before .before .args .bytes)) (c .enum-told5 .given .1) refl
 
 returns-6 : tie.Need-returns-6
 unfolding deedFits
-returns-6 c = fit-as deedFits (now (c .before .before .before .args .bytes)) (c .enum-told6 .given .1) refl
+returns-6 c = fit-as deedFits (now (c .before .before .args .bytes)) (c .enum-told6 .given .1) refl
 
 returns-7 : tie.Need-returns-7
 unfolding deedFits
-returns-7 c = fit-as deedFits (now (c .before .before .before .before .args .bytes)) (c .before .enum-told7 .given .1) (c .marks-help .ensures)
-
-returns-8 : tie.Need-returns-8
-unfolding deedFits
-returns-8 c = fit-as deedFits (now (c .before .before .before .args .bytes)) (c .enum-told8 .given .1) refl
-
-returns-9 : tie.Need-returns-9
-unfolding deedFits
-returns-9 c = fit-as deedFits (now (c .before .before .before .args .bytes)) (c .enum-told9 .given .1) refl
-
-returns-10 : tie.Need-returns-10
-unfolding deedFits
-returns-10 c = fit-as deedFits (now (c .before .before .before .args .bytes)) (c .enum-told10 .given .1) refl
-
-returns-11 : tie.Need-returns-11
-unfolding deedFits
-returns-11 c = fit-as deedFits (now (c .before .before .before .args .bytes)) (c .enum-told11 .given .1) refl
-
-returns-12 : tie.Need-returns-12
-unfolding deedFits
-returns-12 c = fit-as deedFits (now (c .before .before .before .args .bytes)) (c .enum-told12 .given .1) refl
+returns-7 c = fit-as deedFits (now (c .before .before .args .bytes)) (c .enum-told7 .given .1) refl
 
 pub deed-fits-spec : {M : Type 1} → statement M
 deed-fits-spec =
@@ -106,21 +68,10 @@ deed-fits-spec =
     enum-told-5
     enum-told-6
     enum-told-7
-    marks-help-requires
-    enum-told-8
-    enum-told-9
-    enum-told-10
-    enum-told-11
-    enum-told-12
     returns
     returns-2
     returns-3
     returns-4
     returns-5
     returns-6
-    returns-7
-    returns-8
-    returns-9
-    returns-10
-    returns-11
-    returns-12)
+    returns-7)

@@ -20,17 +20,14 @@ enum-known-ask-2 c = search needs
 gift-fits-requires : tie.Need-gift-fits-requires
 gift-fits-requires c κs = search needs
 
-enum-told : tie.Need-enum-told
-enum-told c = search needs
-
 enum-known-ask-3 : tie.Need-enum-known-ask-3
 enum-known-ask-3 c = search needs
 
 arrival-fits-requires : tie.Need-arrival-fits-requires
 arrival-fits-requires c κs = search needs
 
-enum-told-2 : tie.Need-enum-told-2
-enum-told-2 c = search needs
+enum-told : tie.Need-enum-told
+enum-told c = search needs
 
 returns : tie.Need-returns
 unfolding fits
@@ -42,15 +39,11 @@ returns-2 c = fit-as fits (now (c .before .before .before .before .before .args 
 
 returns-3 : tie.Need-returns-3
 unfolding fits
-returns-3 c = fit-as fits (now (c .before .before .before .args .bytes)) (c .enum-told .given .1) refl
+returns-3 c = fit-as fits (now (c .before .before .before .before .before .args .bytes)) (c .before .before .ask3 .given .1) (c .arrival-fits .ensures)
 
 returns-4 : tie.Need-returns-4
 unfolding fits
-returns-4 c = fit-as fits (now (c .before .before .before .before .before .args .bytes)) (c .before .before .ask3 .given .1) (c .arrival-fits .ensures)
-
-returns-5 : tie.Need-returns-5
-unfolding fits
-returns-5 c = fit-as fits (now (c .before .before .before .args .bytes)) (c .enum-told2 .given .1) refl
+returns-4 c = fit-as fits (now (c .before .before .before .args .bytes)) (c .enum-told .given .1) refl
 
 pub fits-spec : {M : Type 1} → statement M
 fits-spec =
@@ -60,12 +53,10 @@ fits-spec =
     deed-fits-requires
     enum-known-ask-2
     gift-fits-requires
-    enum-told
     enum-known-ask-3
     arrival-fits-requires
-    enum-told-2
+    enum-told
     returns
     returns-2
     returns-3
-    returns-4
-    returns-5)
+    returns-4)

@@ -2,78 +2,104 @@
 use mathlib.Core.Path.{refl}
 use native.Mathlib.Omega.{arith}
 use denote.Ref.{now}
-use Rattle.command.proofs.Lines.{items-under}
-use Rattle.command.proofs.Whole.{wrote-menu, room-head, room-third, room-items}
+use Rattle.command.proofs.Lines.{rows-under}
+use Rattle.command.proofs.Whole.{value-under, wrote-menu, room-head, room-third, room-items}
 use borrow.Author.Needs.{needs}
 use Rattle.command.proofs.write_menu.Statement.{statement}
 use Rattle.command.proofs.write_menu.Tie as tie
+use Rattle.command.proofs.write_menu.Reads as reads
+use Rattle.command.proofs.write_menu.Lts as lts
+use Rattle.command.proofs.extent_of.Reads as extent-of-reads
+use Rattle.command.proofs.put_items.Reads as put-items-reads
+use Rattle.command.proofs.put_length.Reads as put-length-reads
+use Rattle.command.proofs.qualifier.Reads as qualifier-reads
+use Rattle.command.proofs.value_length.Reads as value-length-reads
+use Rattle.writing.proofs.put.Reads as put-reads
 
+-- src/lib.rt:123:9
+extent-of-requires : tie.Need-extent-of-requires
+extent-of-requires c κs = search needs
+
+-- src/lib.rt:124:9
 value-length-requires : tie.Need-value-length-requires
-value-length-requires c κs = search needs
+value-length-requires c κs =
+    let s = c .before .before .before in
+    (s .pre .1, omega (arith, c .extent-of .ensures .0, rows-under (s .args .rows) (s .pre .0) (s .args .selectable)))
 
+-- src/lib.rt:125:9
 put-length-requires : tie.Need-put-length-requires
 put-length-requires c κs =
-    let s = c .before .before .before .before in
-    let i = items-under (s .args .rows) (s .pre .0) in
-    (omega (arith, c .before .value-length .ensures, s .pre .1), omega (arith, s .pre .2))
+    let v = c .before in
+    let x = v .before in
+    let s = x .before .before .before in
+    let u = rows-under (s .args .rows) (s .pre .0) (s .args .selectable) in
+    (value-under (x .extent-of .result .bytes) _ (v .value-length .ensures) (omega (arith, x .extent-of .ensures .0)) (s .pre .1), omega (arith, s .pre .2))
 
-some-help-requires : tie.Need-some-help-requires
-some-help-requires c κs = search needs
-
+-- src/lib.rt:126:9
 qualifier-requires : tie.Need-qualifier-requires
 qualifier-requires c κs = search needs
 
-cast-t14 : tie.Need-cast-t14
-cast-t14 c = search needs
+-- src/lib.rt:127:65
+cast-t15 : tie.Need-cast-t15
+cast-t15 c = search needs
 
+-- src/lib.rt:128:43
 slice-aggregate-put : tie.Need-slice-aggregate-put
 slice-aggregate-put c = search needs
 
+-- src/lib.rt:128:9
 put-requires : tie.Need-put-requires
 put-requires c κs =
-    let q = c .before .before .before .before .before .before in
-    let s = q .before .before .before .before .before in
+    let q = c .before .before .before .before .before in
+    let s = q .before .before .before .before .before .before in
     room-head _ (s .pre .2) (q .put-length .ensures)
 
+-- src/lib.rt:129:9
 put-requires-2 : tie.Need-put-requires-2
 put-requires-2 c κs =
     let p = c .before .before .before in
-    let q = p .before .before .before .before .before .before .before in
-    let s = q .before .before .before .before .before in
+    let q = p .before .before .before .before .before .before in
+    let s = q .before .before .before .before .before .before in
     room-third _ (s .pre .2) (q .put-length .ensures) refl (p .put .ensures) (now (s .args .title)) (s .pre .1)
 
+-- src/lib.rt:130:5
 put-items-requires : tie.Need-put-items-requires
 put-items-requires c κs =
     let r = c .before .before .before in
     let p = r .before .before .before .before in
-    let q = p .before .before .before .before .before .before .before in
-    let s = q .before .before .before .before .before in
-    (s .pre .0, room-items _ (s .pre .2) (q .put-length .ensures) refl (p .put .ensures) (now (s .args .title)) (s .pre .1) (s .args .rows) (s .pre .0) (r .put2 .ensures))
+    let q = p .before .before .before .before .before .before in
+    let x = q .before .before .before in
+    let s = x .before .before .before in
+    let u = rows-under (s .args .rows) (s .pre .0) (s .args .selectable) in
+    (s .pre .0, x .extent-of .ensures .0, room-items _ (s .pre .2) (q .put-length .ensures) refl (p .put .ensures) (now (s .args .title)) (s .pre .1) _ u (r .put2 .ensures))
 
+-- src/lib.rt:118:1
 same-length : tie.Need-same-length
 same-length c = search needs
 
+-- src/lib.rt:118:1
 returns : tie.Need-returns
 returns c =
     let i = c .before .before in
     let r = i .before .before .before .before in
     let p = r .before .before .before .before in
     let k = p .before .before .before in
-    let h = k .before in
-    let q = h .before .before .before in
+    let q = k .before .before .before in
     let v = q .before .before in
-    let s = v .before .before .before in
-    wrote-menu (now (s .args .title)) (s .args .rows) (s .pre .0) (s .pre .1) (s .pre .2) (v .value-length .ensures) (q .put-length .ensures) (h .some-help .ensures) (k .qualifier .ensures) (p .put .ensures) (r .put2 .ensures) (i .put-items .ensures)
+    let x = v .before in
+    let s = x .before .before .before in
+    let u = rows-under (s .args .rows) (s .pre .0) (s .args .selectable) in
+    wrote-menu (now (s .args .title)) _ u (s .pre .1) (s .pre .2) (x .extent-of .ensures .0) (v .value-length .ensures) (q .put-length .ensures) (x .extent-of .ensures .1) (k .qualifier .ensures) (p .put .ensures) (r .put2 .ensures) (i .put-items .ensures)
 
 pub write-menu-spec : {M : Type 1} → statement M
 write-menu-spec =
     tie.close
     (tie.spec
+    extent-of-requires
     value-length-requires
     put-length-requires
-    some-help-requires
     qualifier-requires
-    cast-t14
+    cast-t15
     slice-aggregate-put
     put-requires
     put-requires-2

@@ -4,7 +4,7 @@ use mathlib.Core.Path.{subst⁻¹}
 use borrow.Author.Needs.{needs}
 use Rattle.card.specs.declared.Changed.{Changed}
 use Rattle.card.specs.View.{Left}
-use Rattle.card.proofs.FreshLaws.{fresh-left}
+use Rattle.card.proofs.FreshCard.{fresh-left}
 use Rattle.floor.proofs.main.Statement.{statement}
 use Rattle.floor.proofs.main.Tie as tie
 

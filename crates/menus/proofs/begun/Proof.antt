@@ -5,7 +5,7 @@ use Rattle.card.specs.declared.Changed.{Changed}
 use Rattle.card.specs.declared.Arrived.{Arrived}
 use Rattle.card.specs.View.{Left}
 use Rattle.card.specs.Reply.{arrivedBy}
-use Rattle.card.proofs.FreshLaws.{fresh-left}
+use Rattle.card.proofs.FreshCard.{fresh-left}
 use Rattle.card.proofs.Left.{left-again}
 use Rattle.menus.proofs.begun.Statement.{statement}
 use Rattle.menus.proofs.begun.Tie as tie

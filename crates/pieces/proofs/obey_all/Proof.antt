@@ -165,7 +165,7 @@ loop-again c =
     let l = t .before in
     let s = l .before .before .before .before .before .before in
     let line = w .write-answer .ensures (l .loop .next) (l .loop .inv .1 .text) in
-    let obeys = at-record _ _ _ _ _ _ _ (l .loop .command) (l .loop .inv .3) (x .byte-at .ensures) (y .byte-at2 .ensures) (a .arguments .ensures) (r .read .ensures) (p .perform .ensures) line in
+    let obeys = at-record _ _ _ _ _ _ _ (l .loop .command) _ _ (l .loop .inv .3) (x .byte-at .ensures) (y .byte-at2 .ensures) (a .arguments .ensures) (r .read .ensures) (p .perform .ensures) line in
     (begun-more (s .pre .2) _ (t .loop-test .taken) (e .end-of .ensures) (l .loop .inv .0) obeys, n .count-on .ensures, search needs, omega (arith, l .loop .inv .3, p .perform .kept))
 
 same-length : tie.Need-same-length Inv-loop μ-loop

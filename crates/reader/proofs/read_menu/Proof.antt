@@ -10,7 +10,7 @@ use Rattle.lists.specs.Lists.{padded}
 use Rattle.rules.specs.Held.{storedMenu}
 use Rattle.command.specs.Fits.{Fits}
 use Rattle.reader.proofs.Lists.{part-most}
-use Rattle.reader.proofs.Answer.{few-items, rows-fit, value-most, ends, long-title, bad-items, lone-help, not-written, is-read}
+use Rattle.reader.proofs.Answer.{few-items, all-shown, rows-fit, value-most, ends, long-title, bad-items, lone-help, not-written, is-read}
 use borrow.Author.Needs.{needs}
 use Rattle.reader.proofs.read_menu.Statement.{statement}
 use Rattle.reader.proofs.read_menu.Tie as tie
@@ -129,7 +129,7 @@ is-written-requires c κs =
     let rr = c .before .before .before .before .before .before .read-rows .ensures in
     let ok = not-false _ (c .before .before .before .before .if2 .left) in
     let er = rr .rows ok in
-    (subst Fits (sym er) (rows-fit _ _ (few-items s _) (sym (rr .verdict) ∙ ok)), part-most (p1 .part-len .result) (p2 .part-len2 .result) 20 (drop (p1 .part-len .result) s) (c .before .before .before .before .before .before .before .if1 .left))
+    (subst Fits (sym er) (rows-fit _ _ (few-items s _) (sym (rr .verdict) ∙ ok)), all-shown rr ok, part-most (p1 .part-len .result) (p2 .part-len2 .result) 20 (drop (p1 .part-len .result) s) (c .before .before .before .before .before .before .before .if1 .left))
 
 returns-4 : tie.Need-returns-4
 returns-4 c =

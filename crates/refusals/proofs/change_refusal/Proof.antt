@@ -1,9 +1,7 @@
 -- `change_refusal` meets its contract.
 -- Assumes nothing.
 use mathlib.Core.Path.{refl}
-use denote.Ref.{now}
-use Rattle.rules.specs.Held.{viewApplet, viewRows}
-use Rattle.rules.specs.Rows.{notItsRow, badText}
+use mathlib.Core.Bool.{not}
 use Rattle.refusals.proofs.Lines.{text-last}
 use borrow.Author.Needs.{needs}
 use Rattle.refusals.proofs.change_refusal.Statement.{statement}
@@ -18,8 +16,8 @@ text-refusal-requires c κs = search needs
 returns : tie.Need-returns
 returns c =
     let r = c .before in
-    let a = r .before .before .args in
-    text-last 11 refl (a .there) (notItsRow (a .number) (a .identifier) (viewRows (a .rows))) (badText (viewApplet (a .applet)) (now (a .text))) (r .row-refusal .ensures) (c .text-refusal .ensures)
+    let a = r .before .args in
+    text-last 11 refl (a .there) (not (a .its)) (not (a .fits)) (r .row-refusal .ensures) (c .text-refusal .ensures)
 
 pub change-refusal-spec : {M : Type 1} → statement M
 change-refusal-spec = tie.close (tie.spec row-refusal-requires text-refusal-requires returns)

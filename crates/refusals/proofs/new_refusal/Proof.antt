@@ -1,10 +1,8 @@
 -- `new_refusal` meets its contract.
 -- Assumes nothing.
 use mathlib.Core.Path.{refl}
-use denote.Ref.{now}
+use mathlib.Core.Bool.{not}
 use Rattle.lists.specs.Tests.{_≤?_}
-use Rattle.rules.specs.Held.{viewApplet}
-use Rattle.rules.specs.Rows.{badText}
 use Rattle.refusals.proofs.Lines.{text-last}
 use borrow.Author.Needs.{needs}
 use Rattle.refusals.proofs.new_refusal.Statement.{statement}
@@ -19,8 +17,8 @@ text-refusal-requires c κs = search needs
 returns : tie.Need-returns
 returns c =
     let r = c .before in
-    let a = r .before .before .args in
-    text-last 10 refl (a .there) (a .applet .entries ≤? a .applet .made) (badText (viewApplet (a .applet)) (now (a .text))) (r .made-refusal .ensures) (c .text-refusal .ensures)
+    let a = r .before .args in
+    text-last 10 refl (a .there) (a .entries ≤? a .made) (not (a .fits)) (r .made-refusal .ensures) (c .text-refusal .ensures)
 
 pub new-refusal-spec : {M : Type 1} → statement M
 new-refusal-spec = tie.close (tie.spec made-refusal-requires text-refusal-requires returns)

@@ -1,29 +1,41 @@
--- `allocate`: refused where there is no such applet, else what the bank's call gives.
--- Assumes nothing.
-use Rattle.card.proofs.Left.{tidy-applets}
-use Rattle.card.proofs.TimerLaws.{allocate-refuses, allocate-gives}
+use Rattle.card.proofs.Timers.{allocates}
+use borrow.Author.Needs.{needs}
 use Rattle.card.proofs.Card.allocate.Statement.{statement}
 use Rattle.card.proofs.Card.allocate.Tie as tie
+use Rattle.card.proofs.Card.allocate.Reads as reads
+use Rattle.card.proofs.Card.allocate.Lts as lts
+use Rattle.applets.proofs.grant_at.Reads as grant-at-reads
+use Rattle.card.proofs.timing.owner_for.Reads as owner-for-reads
+use Rattle.sets.proofs.has.Reads as has-reads
+use Rattle.timers.proofs.allocate.Reads as allocate-reads
 
-look-requires : tie.Need-look-requires
-look-requires c κs = tidy-applets (c .before .args .self) (c .before .pre)
+-- src/timing.rt:29:13
+has-requires : tie.Need-has-requires
+has-requires c κs = search needs
 
+-- src/timing.rt:30:13
+owner-for-requires : tie.Need-owner-for-requires
+owner-for-requires c κs = search needs
+
+-- src/timing.rt:32:13
+grant-at-requires : tie.Need-grant-at-requires
+grant-at-requires c κs = search needs
+
+-- src/timing.rt:34:13
 allocate-requires : tie.Need-allocate-requires
-allocate-requires c κs = tt
+allocate-requires c κs = search needs
 
+-- src/timing.rt:24:5
 returns : tie.Need-returns
 returns c =
-    let call = c .before .allocate in
-    let there = c .before .before .before .before in
-    let at = there .before in
-    let b = at .before .before in
-    allocate-gives (b .args .self) (b .pre) (b .args .applet) (at .look .result) (at .look .ensures) (there .if1 .taken) (call .result .answer) (call .result .bank) (call .ensures)
-
-returns-2 : tie.Need-returns-2
-returns-2 c =
-    let at = c .before in
-    let b = at .before .before in
-    allocate-refuses (b .args .self) (b .pre) (b .args .applet) (at .look .result) (at .look .ensures) (c .if1 .left)
+    let a = c .before in
+    let g = a .before .before in
+    let o = g .before .before in
+    let h = o .before in
+    let s = h .before in
+    allocates (s .args .self) (s .pre) (s .args .applet) (h .has .ensures) (g .grant-at .ensures) (o .owner-for .ensures) (a .allocate .ensures)
 
 pub allocate-spec : {M : Type 1} → statement M
-allocate-spec = tie.close (tie.spec look-requires allocate-requires returns returns-2)
+allocate-spec =
+    tie.close
+    (tie.spec has-requires owner-for-requires grant-at-requires allocate-requires returns)

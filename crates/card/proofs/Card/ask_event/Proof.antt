@@ -1,60 +1,74 @@
--- `ask_event`: refused, or answered by the applet that was looked up and the owner of call control.
--- Assumes nothing.
-use Rattle.events.proofs.Places.{kind-of-value}
-use Rattle.card.proofs.Left.{tidy-applets}
-use Rattle.card.proofs.EventLaws.{ask-refuses, ask-yes, ask-no}
+use Rattle.card.proofs.Asking.{asks-event}
+use Rattle.events.proofs.Places.{kind-of-value, place-within}
+use borrow.Author.Needs.{needs}
 use Rattle.card.proofs.Card.ask_event.Statement.{statement}
 use Rattle.card.proofs.Card.ask_event.Tie as tie
+use Rattle.card.proofs.Card.ask_event.Reads as reads
+use Rattle.card.proofs.Card.ask_event.Lts as lts
+use Rattle.events.proofs.kind_of.Reads as kind-of-reads
+use Rattle.events.proofs.place_of.Reads as place-of-reads
+use Rattle.card.proofs.registering.is_listed.Reads as is-listed-reads
+use Rattle.card.proofs.registering.told_of.Reads as told-of-reads
+use Rattle.refusals.proofs.refusal_for.Reads as refusal-for-reads
+use Rattle.sets.proofs.has.Reads as has-reads
 
-look-requires : tie.Need-look-requires
-look-requires c κs = tidy-applets _ (c .before .pre)
-
+-- src/registering.rt:139:13
 kind-of-requires : tie.Need-kind-of-requires
-kind-of-requires c κs = tt
+kind-of-requires c κs = search needs
 
+-- src/registering.rt:140:13
+has-requires : tie.Need-has-requires
+has-requires c κs = search needs
+
+-- src/registering.rt:141:13
 refusal-for-requires : tie.Need-refusal-for-requires
-refusal-for-requires c κs = tt
+refusal-for-requires c κs = search needs
 
+-- src/registering.rt:142:13
+place-of-requires : tie.Need-place-of-requires
+place-of-requires c κs = search needs
+
+-- src/registering.rt:143:17
+cast-p : tie.Need-cast-p
+cast-p c = search needs
+
+-- src/registering.rt:145:19
+array-read-set : tie.Need-array-read-set
+array-read-set c =
+    let p = c .before in
+    let k = p .before .before .before in
+    place-within _ (kind-of-value _ (k .before .fits .value) (k .kind-of .ensures)) (p .place-of .ensures)
+
+-- src/registering.rt:146:13
+is-listed-requires : tie.Need-is-listed-requires
+is-listed-requires c κs = search needs
+
+-- src/registering.rt:147:13
+told-of-requires : tie.Need-told-of-requires
+told-of-requires c κs = search needs
+
+-- src/registering.rt:135:5
 returns : tie.Need-returns
 returns c =
-    let r = c .before in
-    let k = r .before in
-    let l = k .before in
-    ask-refuses _ (l .before .before .pre) _ _ _ (l .look .ensures) _ (kind-of-value _ (l .before .before .fits .value) (k .kind-of .ensures)) (r .refusal-for .ensures) (c .if1 .taken)
-
-place-of-requires : tie.Need-place-of-requires
-place-of-requires c κs = tt
-
-is-registered-requires : tie.Need-is-registered-requires
-is-registered-requires c κs = tt
-
-returns-2 : tie.Need-returns-2
-returns-2 c =
     let i = c .before in
-    let p = i .before in
-    let r = p .before .before in
-    let k = r .before in
-    let l = k .before in
-    ask-yes _ (l .before .before .pre) _ _ _ (l .look .ensures) _ (kind-of-value _ (l .before .before .fits .value) (k .kind-of .ensures)) (r .refusal-for .ensures) (p .before .if1 .left) (p .place-of .ensures) (i .is-registered .ensures) (c .if2 .taken)
-
-returns-3 : tie.Need-returns-3
-returns-3 c =
-    let i = c .before in
-    let p = i .before in
-    let r = p .before .before in
-    let k = r .before in
-    let l = k .before in
-    ask-no _ (l .before .before .pre) _ _ _ (l .look .ensures) _ (kind-of-value _ (l .before .before .fits .value) (k .kind-of .ensures)) (r .refusal-for .ensures) (p .before .if1 .left) (p .place-of .ensures) (i .is-registered .ensures) (c .if2 .left)
+    let p = i .before .before in
+    let r = p .before in
+    let h = r .before in
+    let k = h .before in
+    let s = k .before in
+    asks-event (s .args .self) (s .pre) (s .args .applet) (s .args .value) (kind-of-value _ (s .fits .value) (k .kind-of .ensures))
+    (h .has .ensures) (r .refusal-for .ensures) (p .place-of .ensures) (i .is-listed .ensures) (c .told-of .ensures)
 
 pub ask-event-spec : {M : Type 1} → statement M
 ask-event-spec =
     tie.close
     (tie.spec
-    look-requires
     kind-of-requires
+    has-requires
     refusal-for-requires
-    returns
     place-of-requires
-    is-registered-requires
-    returns-2
-    returns-3)
+    cast-p
+    array-read-set
+    is-listed-requires
+    told-of-requires
+    returns)

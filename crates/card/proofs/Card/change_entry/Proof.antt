@@ -1,53 +1,74 @@
--- `change_entry`: refused or accepted by the table; the menu is marked where the shown row of a selectable applet turns.
--- Assumes nothing.
-use Rattle.card.proofs.Left.{tidy-applets, tidy-rows}
-use Rattle.card.proofs.EntryLaws.{change-refused, change-accepted}
+use Rattle.card.proofs.Left.{tidy-rows}
+use Rattle.card.proofs.EntryRows.{changes-words}
+use borrow.Author.Needs.{needs}
 use Rattle.card.proofs.Card.change_entry.Statement.{statement}
 use Rattle.card.proofs.Card.change_entry.Tie as tie
+use Rattle.card.proofs.Card.change_entry.Reads as reads
+use Rattle.card.proofs.Card.change_entry.Lts as lts
+use Rattle.applets.proofs.grant_at.Reads as grant-at-reads
+use Rattle.card.proofs.done_of.Reads as done-of-reads
+use Rattle.card.proofs.due_after.Reads as due-after-reads
+use Rattle.refusals.proofs.change_refusal.Reads as change-refusal-reads
+use Rattle.refusals.proofs.fits.Reads as fits-reads
+use Rattle.rows.proofs.changed.Reads as changed-reads
+use Rattle.sets.proofs.has.Reads as has-reads
 
-look-requires : tie.Need-look-requires
-look-requires c κs = tidy-applets _ (c .before .before .before .before .pre)
+-- src/entries.rt:53:13
+has-requires : tie.Need-has-requires
+has-requires c κs = search needs
 
+-- src/entries.rt:54:13
+has-requires-2 : tie.Need-has-requires-2
+has-requires-2 c κs = search needs
+
+-- src/entries.rt:56:13
+grant-at-requires : tie.Need-grant-at-requires
+grant-at-requires c κs = search needs
+
+-- src/entries.rt:57:13
+fits-requires : tie.Need-fits-requires
+fits-requires c κs = search needs
+
+-- src/entries.rt:59:13
+changed-requires : tie.Need-changed-requires
+changed-requires c κs = tidy-rows _ (c .before .before .before .before .before .before .before .pre)
+
+-- src/entries.rt:60:13
+due-after-requires : tie.Need-due-after-requires
+due-after-requires c κs = search needs
+
+-- src/entries.rt:64:13
 change-refusal-requires : tie.Need-change-refusal-requires
-change-refusal-requires c κs = tidy-rows _ (c .before .before .before .before .before .before .pre)
+change-refusal-requires c κs = search needs
 
+-- src/entries.rt:65:13
+done-of-requires : tie.Need-done-of-requires
+done-of-requires c κs = search needs
+
+-- src/entries.rt:48:5
 returns : tie.Need-returns
 returns c =
-    let b = c .before in
-    let k = b .before .before in
-    let s = k .before .before .before .before .before in
-    let a = s .args in
-    change-refused (a .self) (s .pre) (a .applet) (a .identifier) (a .help) (a .text .now) (k .look .result) (k .look .ensures) (b .change-refusal .ensures) (c .if1 .taken)
-
-turns-text-requires : tie.Need-turns-text-requires
-turns-text-requires c κs = tidy-rows _ (c .before .before .before .before .before .before .before .before .pre)
-
-changed-requires : tie.Need-changed-requires
-changed-requires c κs = tidy-rows _ (c .before .before .before .before .before .before .before .before .before .pre)
-
-marked-row-requires : tie.Need-marked-row-requires
-marked-row-requires c κs = tt
-
-returns-2 : tie.Need-returns-2
-returns-2 c =
-    let d = c .before .before .before in
-    let b = d .before in
-    let k = b .before .before in
-    let s = k .before .before .before .before .before in
-    let a = s .args in
-    change-accepted (a .self) (s .pre) (a .applet) (a .identifier) (a .help) (a .text .now) (k .look .result) (k .look .ensures) (b .change-refusal .ensures) (d .if1 .left)
-    (c .before .before .turns-text .ensures)
-    (c .before .changed .ensures)
-    (c .marked-row .ensures)
+    let r = c .before in
+    let d = r .before .before .before in
+    let w = d .before .before in
+    let f = w .before .before in
+    let g = f .before in
+    let v = g .before .before in
+    let h = v .before in
+    let s = h .before .before in
+    changes-words (s .args .self) (s .pre) (s .args .applet) (s .args .identifier) (s .args .help) (s .args .text .now)
+    (h .has .ensures) (v .has2 .ensures) (g .grant-at .ensures) (f .fits2 .ensures) (w .changed .ensures) (d .due-after .ensures) (r .change-refusal .ensures) (c .done-of .ensures)
 
 pub change-entry-spec : {M : Type 1} → statement M
 change-entry-spec =
     tie.close
     (tie.spec
-    look-requires
-    change-refusal-requires
-    returns
-    turns-text-requires
+    has-requires
+    has-requires-2
+    grant-at-requires
+    fits-requires
     changed-requires
-    marked-row-requires
-    returns-2)
+    due-after-requires
+    change-refusal-requires
+    done-of-requires
+    returns)

@@ -1,57 +1,120 @@
--- `delete`: refused where no applet has the number; else it is gone with all that is its own, and what that hides is marked.
--- Assumes nothing.
-use borrow.Author.Tests.{not-true, not-false}
-use Rattle.card.proofs.Left.{tidy-applets, tidy-rows}
-use Rattle.card.proofs.AdminLaws.{delete-refuses, delete-accepts}
+use mathlib.Core.Path.{sym, _∙_}
+use mathlib.Core.Logic.{⊎-elim}
+use Rattle.card.proofs.Left.{tidy-rows}
+use Rattle.card.proofs.Order.{count-small}
+use Rattle.card.proofs.Present.{low-is, high-is}
+use Rattle.card.proofs.Deleted.{removes, deletes, deletes-none}
+use borrow.Author.Needs.{needs}
 use Rattle.card.proofs.Card.delete.Statement.{statement}
 use Rattle.card.proofs.Card.delete.Tie as tie
+use Rattle.card.proofs.Card.delete.Reads as reads
+use Rattle.card.proofs.Card.delete.Lts as lts
+use Rattle.applets.proofs.made_with.Reads as made-with-reads
+use Rattle.applets.proofs.roll_without.Reads as roll-without-reads
+use Rattle.applets.proofs.unregistered.Reads as unregistered-reads
+use Rattle.card.proofs.done_of.Reads as done-of-reads
+use Rattle.card.proofs.due_after.Reads as due-after-reads
+use Rattle.card.proofs.locking.absent_refusal.Reads as absent-refusal-reads
+use Rattle.card.proofs.locking.menu_turns.Reads as menu-turns-reads
+use Rattle.downloads.proofs.codes_turn.Reads as codes-turn-reads
+use Rattle.menu.proofs.without.Reads as without-reads
+use Rattle.sets.proofs.has.Reads as has-reads
+use Rattle.sets.proofs.turned.Reads as turned-reads
+use Rattle.timers.proofs.forgotten.Reads as forgotten-reads
+use Rattle.timers.proofs.freed.Reads as freed-reads
 
-look-requires : tie.Need-look-requires
-look-requires c κs = tidy-applets _ (c .before .pre)
+-- src/removing.rt:21:13
+has-requires : tie.Need-has-requires
+has-requires c κs = search needs
 
+-- src/removing.rt:24:17
+turned-requires : tie.Need-turned-requires
+turned-requires c κs = search needs
+
+-- src/removing.rt:30:17
+menu-turns-requires : tie.Need-menu-turns-requires
+menu-turns-requires c κs = tidy-rows _ (c .before .before .before .before .before .before .before .before .pre)
+
+-- src/removing.rt:31:17
+codes-turn-requires : tie.Need-codes-turn-requires
+codes-turn-requires c κs = search needs
+
+-- src/removing.rt:32:17
+due-after-requires : tie.Need-due-after-requires
+due-after-requires c κs = search needs
+
+-- src/removing.rt:33:17
+due-after-requires-2 : tie.Need-due-after-requires-2
+due-after-requires-2 c κs = search needs
+
+-- src/removing.rt:34:17
+roll-without-requires : tie.Need-roll-without-requires
+roll-without-requires c κs =
+    let t = c .before .before .before .before .before .before .before .before .before .before in
+    let s = t .before .before in
+    let there = sym (t .before .has .ensures) ∙ t .if1 .taken in
+    (low-is (s .args .self) (s .pre) (s .args .applet) there, high-is (s .args .self) (s .pre) (s .args .applet) there, count-small _ (s .pre))
+
+-- src/removing.rt:35:17
+unregistered-requires : tie.Need-unregistered-requires
+unregistered-requires c κs = search needs
+
+-- src/removing.rt:36:17
+made-with-requires : tie.Need-made-with-requires
+made-with-requires c κs = search needs
+
+-- src/removing.rt:37:17
+freed-requires : tie.Need-freed-requires
+freed-requires c κs = search needs
+
+-- src/removing.rt:38:17
+forgotten-requires : tie.Need-forgotten-requires
+forgotten-requires c κs = search needs
+
+-- src/removing.rt:39:17
+without-requires : tie.Need-without-requires
+without-requires c κs = tidy-rows _ (c .before .before .before .before .before .before .before .before .before .before .before .before .before .before .before .before .before .pre)
+
+-- src/removing.rt:50:13
+absent-refusal-requires : tie.Need-absent-refusal-requires
+absent-refusal-requires c κs = search needs
+
+-- src/removing.rt:51:13
+done-of-requires : tie.Need-done-of-requires
+done-of-requires c κs = search needs
+
+-- src/removing.rt:16:5
 returns : tie.Need-returns
 returns c =
-    let b = c .before .before in
-    delete-refuses _ (b .before .before .pre) (b .before .before .args .applet) _ (b .look .ensures) (not-true _ (c .if1 .taken))
-
-without-requires : tie.Need-without-requires
-without-requires c κs = tidy-applets _ (c .before .before .before .before .before .before .before .before .pre)
-
-without-requires-2 : tie.Need-without-requires-2
-without-requires-2 c κs = tidy-rows _ (c .before .before .before .before .before .before .before .before .before .pre)
-
-freed-requires : tie.Need-freed-requires
-freed-requires c κs = tt
-
-forgotten-requires : tie.Need-forgotten-requires
-forgotten-requires c κs = tt
-
-marked-for-requires : tie.Need-marked-for-requires
-marked-for-requires c κs =
-    let s = c .before .before .before .before .before .before .before .before .before .before .before .before in
-    (tidy-applets _ (s .pre), tidy-rows _ (s .pre))
-
-returns-2 : tie.Need-returns-2
-returns-2 c =
-    let f = c .before .before in
-    let e = f .before .before .before .before .before .before .before in
-    let b = e .before .before in
-    delete-accepts _ (b .before .before .pre) (b .before .before .args .applet) _ (b .look .ensures) (not-false _ (e .if1 .left))
-    (f .before .before .without .ensures)
-    (f .before .without2 .ensures)
-    (f .freed .ensures)
-    (c .before .forgotten .ensures)
-    (c .marked-for .ensures)
+    let a = c .before in
+    let j = a .before in
+    let h = j .before in
+    let s = h .before in
+    ⊎-elim
+    (λ w. deletes (s .args .self) (s .pre) (s .args .applet) (h .has .ensures) (a .absent-refusal .ensures) (w .0 .taken)
+    (w .19
+    ∙ removes (s .args .self) (s .pre) (s .args .applet) (sym (h .has .ensures) ∙ w .0 .taken)
+    (w .1 .ensures) (w .7 .ensures) (w .8 .ensures) (w .9 .ensures) (w .10 .ensures) (w .11 .ensures) (w .12 .ensures) (w .13 .ensures) (w .14 .ensures) (w .15 .ensures) (w .16 .ensures))
+    (c .done-of .ensures))
+    (λ w. deletes-none (s .args .self) (s .pre) (s .args .applet) (h .has .ensures) (a .absent-refusal .ensures) (w .0 .left) (w .1) (c .done-of .ensures))
+    (j .if1 .came)
 
 pub delete-spec : {M : Type 1} → statement M
 delete-spec =
     tie.close
     (tie.spec
-    look-requires
-    returns
-    without-requires
-    without-requires-2
+    has-requires
+    turned-requires
+    menu-turns-requires
+    codes-turn-requires
+    due-after-requires
+    due-after-requires-2
+    roll-without-requires
+    unregistered-requires
+    made-with-requires
     freed-requires
     forgotten-requires
-    marked-for-requires
-    returns-2)
+    without-requires
+    absent-refusal-requires
+    done-of-requires
+    returns)

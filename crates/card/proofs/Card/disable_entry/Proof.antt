@@ -1,28 +1,61 @@
--- `disable_entry`: the row becomes disabled.
--- Assumes nothing.
-use mathlib.Core.Path.{refl}
 use mathlib.Core.Bool.{false}
 use Rattle.card.proofs.Left.{tidy-rows}
-use Rattle.card.proofs.EntryLaws.{turn-refused, turn-accepted}
+use Rattle.card.proofs.EntryRows.{turns-entry}
+use borrow.Author.Needs.{needs}
 use Rattle.card.proofs.Card.disable_entry.Statement.{statement}
 use Rattle.card.proofs.Card.disable_entry.Tie as tie
+use Rattle.card.proofs.Card.disable_entry.Reads as reads
+use Rattle.card.proofs.Card.disable_entry.Lts as lts
+use Rattle.card.proofs.done_of.Reads as done-of-reads
+use Rattle.card.proofs.due_after.Reads as due-after-reads
+use Rattle.refusals.proofs.row_refusal.Reads as row-refusal-reads
+use Rattle.rows.proofs.enabled.Reads as enabled-reads
+use Rattle.sets.proofs.has.Reads as has-reads
 
-turn-entry-requires : tie.Need-turn-entry-requires
-turn-entry-requires c κs = c .pre
+-- src/entries.rt:94:13
+has-requires : tie.Need-has-requires
+has-requires c κs = search needs
 
-returns : tie.Need-returns
-returns c =
-    let s = c .before .before in
-    turn-refused (s .args .self) (s .pre) (s .args .applet) (s .args .identifier) false _ refl (c .before .turn-entry .ensures .0) (c .if1 .taken)
+-- src/entries.rt:95:13
+has-requires-2 : tie.Need-has-requires-2
+has-requires-2 c κs = search needs
 
+-- src/entries.rt:97:13
 enabled-requires : tie.Need-enabled-requires
 enabled-requires c κs = tidy-rows _ (c .before .before .before .pre)
 
-returns-2 : tie.Need-returns-2
-returns-2 c =
-    let t = c .before .before .before .before in
-    let s = t .before in
-    turn-accepted (s .args .self) (s .pre) (s .args .applet) (s .args .identifier) false _ refl (t .turn-entry .ensures .0) (c .before .before .before .if1 .left) refl (c .before .enabled .ensures) (t .turn-entry .ensures .1)
+-- src/entries.rt:98:13
+due-after-requires : tie.Need-due-after-requires
+due-after-requires c κs = search needs
+
+-- src/entries.rt:102:13
+row-refusal-requires : tie.Need-row-refusal-requires
+row-refusal-requires c κs = search needs
+
+-- src/entries.rt:103:13
+done-of-requires : tie.Need-done-of-requires
+done-of-requires c κs = search needs
+
+-- src/entries.rt:89:5
+returns : tie.Need-returns
+returns c =
+    let r = c .before in
+    let d = r .before .before .before in
+    let w = d .before .before in
+    let v = w .before .before in
+    let h = v .before in
+    let s = h .before in
+    turns-entry (s .args .self) (s .pre) (s .args .applet) (s .args .identifier) false
+    (h .has .ensures) (v .has2 .ensures) (w .enabled .ensures) (d .due-after .ensures) (r .row-refusal .ensures) (c .done-of .ensures)
 
 pub disable-entry-spec : {M : Type 1} → statement M
-disable-entry-spec = tie.close (tie.spec turn-entry-requires returns enabled-requires returns-2)
+disable-entry-spec =
+    tie.close
+    (tie.spec
+    has-requires
+    has-requires-2
+    enabled-requires
+    due-after-requires
+    row-refusal-requires
+    done-of-requires
+    returns)

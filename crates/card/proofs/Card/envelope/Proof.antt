@@ -1,41 +1,47 @@
--- `envelope`: refused where the bytes are malformed, else those whom it is for are called.
+-- `envelope`: refused where the bytes are malformed; those whom it is for are called.
 -- Assumes nothing.
-use Rattle.card.proofs.Left.{tidy-applets, tidy-rows}
-use Rattle.card.proofs.ArrivalLaws.{envelope-refuses, envelope-accepts}
+use borrow.Author.Needs.{needs}
+use Rattle.card.proofs.Left.{tidy-rows}
+use Rattle.card.proofs.Order.{count-small}
+use Rattle.card.proofs.Envelope.{comes}
 use Rattle.card.proofs.Card.envelope.Statement.{statement}
 use Rattle.card.proofs.Card.envelope.Tie as tie
 
 read-envelope-requires : tie.Need-read-envelope-requires
-read-envelope-requires c κs = tt
+read-envelope-requires c κs = search needs
 
 is-bad-requires : tie.Need-is-bad-requires
-is-bad-requires c κs = tt
+is-bad-requires c κs = search needs
 
-refused-requires : tie.Need-refused-requires
-refused-requires c κs = tt
+refusal-if-requires : tie.Need-refusal-if-requires
+refusal-if-requires c κs = search needs
+
+whom-requires : tie.Need-whom-requires
+whom-requires c κs = tidy-rows _ (c .before .before .before .before .before .before .before .pre)
+
+called-requires : tie.Need-called-requires
+called-requires c κs = search needs
+
+listed-requires : tie.Need-listed-requires
+listed-requires c κs = count-small _ (c .before .before .before .before .before .before .before .before .before .before .pre)
+
+envelope-marks-requires : tie.Need-envelope-marks-requires
+envelope-marks-requires c κs = search needs
+
+answered-requires : tie.Need-answered-requires
+answered-requires c κs = search needs
 
 returns : tie.Need-returns
 returns c =
-    let b = c .before .before in
-    envelope-refuses _ (b .before .before .before .pre) _ (b .before .read-envelope .ensures) (b .is-bad .ensures) (c .before .if1 .taken) (c .refused .ensures)
-
-callees-requires : tie.Need-callees-requires
-callees-requires c κs =
-    let s = c .before .before .before .before .before .before .before in
-    (tidy-applets _ (s .pre), tidy-rows _ (s .pre))
-
-envelope-marks-requires : tie.Need-envelope-marks-requires
-envelope-marks-requires c κs = tt
-
-named-requires : tie.Need-named-requires
-named-requires c κs = tt
-
-returns-2 : tie.Need-returns-2
-returns-2 c =
-    let k = c .before .before in
-    let i = k .before .before .before .before in
-    let b = i .before in
-    envelope-accepts _ (b .before .before .before .pre) _ (b .before .read-envelope .ensures) (b .is-bad .ensures) (i .if1 .left) (k .callees .ensures) (c .before .envelope-marks .ensures) (c .named .ensures)
+    let n = c .before in
+    let k = n .before in
+    let w = k .before .before in
+    let f = w .before in
+    let r = f .before .before .before .before in
+    let x = r .before in
+    let e = x .before in
+    comes _ (e .before .before .pre) _ (e .read-envelope .ensures) (x .is-bad .ensures) (r .refusal-if .ensures) (f .whom .ensures) (w .called .ensures)
+    (k .listed .ensures) (n .envelope-marks .ensures) (c .answered .ensures)
 
 pub envelope-spec : {M : Type 1} → statement M
 envelope-spec =
@@ -43,9 +49,10 @@ envelope-spec =
     (tie.spec
     read-envelope-requires
     is-bad-requires
-    refused-requires
-    returns
-    callees-requires
+    refusal-if-requires
+    whom-requires
+    called-requires
+    listed-requires
     envelope-marks-requires
-    named-requires
-    returns-2)
+    answered-requires
+    returns)

@@ -1,43 +1,56 @@
--- `fresh`: the card with the title, or with none where the title is too long.
--- Assumes nothing.
 use denote.Ref.{now}
-use Rattle.refusals.proofs.Calls.{title-short}
-use Rattle.card.proofs.FreshLaws.{fresh-refuses, fresh-accepts}
+use Rattle.card.proofs.FreshCard.{kept-long, kept-short, freshens}
 use borrow.Author.Needs.{needs}
 use Rattle.card.proofs.Card.fresh.Statement.{statement}
 use Rattle.card.proofs.Card.fresh.Tie as tie
+use Rattle.card.proofs.Card.fresh.Reads as reads
+use Rattle.card.proofs.Card.fresh.Lts as lts
+use Rattle.card.proofs.done_of.Reads as done-of-reads
+use Rattle.card.proofs.fresh.kept_length.Reads as kept-length-reads
+use Rattle.card.proofs.fresh.made.Reads as made-reads
+use Rattle.refusals.proofs.title_refusal.Reads as title-refusal-reads
 
+-- src/fresh.rt:69:13
 title-refusal-requires : tie.Need-title-refusal-requires
-title-refusal-requires c κs = tt
+title-refusal-requires c κs = search needs
 
+-- src/fresh.rt:70:13
+kept-length-requires : tie.Need-kept-length-requires
+kept-length-requires c κs = search needs
+
+-- src/fresh.rt:71:25
 slice-aggregate-made : tie.Need-slice-aggregate-made
-slice-aggregate-made c = search needs
+slice-aggregate-made c =
+    let n = c .before in
+    let r = n .before in
+    kept-long (now (r .before .before .args .title)) (r .title-refusal .ensures) (n .kept-length .ensures)
 
+-- src/fresh.rt:71:13
 made-requires : tie.Need-made-requires
-made-requires c κs = search needs
+made-requires c κs =
+    let n = c .before in
+    let r = n .before in
+    kept-short (now (r .before .before .args .title)) (r .title-refusal .ensures) (n .kept-length .ensures)
 
+-- src/fresh.rt:72:13
+done-of-requires : tie.Need-done-of-requires
+done-of-requires c κs = search needs
+
+-- src/fresh.rt:66:5
 returns : tie.Need-returns
 returns c =
-    let i = c .before .before in
-    let r = i .before in
-    fresh-refuses (now (r .before .before .args .title)) (r .title-refusal .ensures) (i .if1 .taken) (c .made .ensures)
-
-made-requires-2 : tie.Need-made-requires-2
-made-requires-2 c κs = title-short _ (c .before .title-refusal .ensures) (c .if1 .left)
-
-returns-2 : tie.Need-returns-2
-returns-2 c =
-    let i = c .before in
-    let r = i .before in
-    fresh-accepts (now (r .before .before .args .title)) (r .title-refusal .ensures) (i .if1 .left) (c .made2 .ensures)
+    let m = c .before in
+    let n = m .before .before in
+    let r = n .before in
+    freshens (now (r .before .before .args .title)) (r .title-refusal .ensures) (n .kept-length .ensures) (m .made .ensures) (c .done-of .ensures)
 
 pub fresh-spec : {M : Type 1} → statement M
 fresh-spec =
     tie.close
     (tie.spec
     title-refusal-requires
+    kept-length-requires
     slice-aggregate-made
     made-requires
-    returns
-    made-requires-2
-    returns-2)
+    done-of-requires
+    returns)

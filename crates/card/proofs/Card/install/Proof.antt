@@ -1,27 +1,58 @@
--- `install`: refused by the number that the table gives; else the newcomer stands behind the applets present.
+-- `card::Card::install` meets its contract. By what its parts say, accepted and refused.
 -- Assumes nothing.
-use Rattle.card.proofs.Left.{tidy-applets}
-use Rattle.card.proofs.AdminLaws.{install-refuses, install-accepts}
+use mathlib.Core.Logic.{⊎-elim}
+use Rattle.card.proofs.Order.{order-form, order-eight}
+use Rattle.card.proofs.Installs.{from-one, to-eight, count-room, accepts, with-newcomer, as-it-was, replies}
+use borrow.Author.Needs.{needs}
 use Rattle.card.proofs.Card.install.Statement.{statement}
 use Rattle.card.proofs.Card.install.Tie as tie
 
 install-refusal-requires : tie.Need-install-refusal-requires
-install-refusal-requires c κs = tidy-applets _ (c .before .pre)
+install-refusal-requires c κs = search needs
 
-installed-requires : tie.Need-installed-requires
-installed-requires c κs = tidy-applets _ (c .before .before .before .pre)
+granted-requires : tie.Need-granted-requires
+granted-requires c κs = search needs
+
+roll-with-requires : tie.Need-roll-with-requires
+roll-with-requires c κs =
+    let f = c .before .before in
+    let s = f .before .before in
+    let k = s .args .self in
+    let l = s .pre in
+    let n = s .args .applet in
+    let q = s .args .request in
+    let a = accepts k l n q (f .install-refusal .ensures) (c .before .if1 .taken) in
+    (from-one k l n q a, to-eight k l n q a, count-room k l n q a, order-form k l, order-eight k l)
+
+turned-requires : tie.Need-turned-requires
+turned-requires c κs = search needs
+
+done-of-requires : tie.Need-done-of-requires
+done-of-requires c κs = search needs
 
 returns : tie.Need-returns
 returns c =
-    let b = c .before .before in
-    let s = b .before .before in
-    install-accepts _ (s .pre) (s .args .applet) (s .args .request) _ (b .install-refusal .ensures) (c .before .if1 .taken) (c .installed .ensures)
-
-returns-2 : tie.Need-returns-2
-returns-2 c =
-    let b = c .before in
-    let s = b .before .before in
-    install-refuses _ (s .pre) (s .args .applet) (s .args .request) _ (b .install-refusal .ensures) (c .if1 .left)
+    let f = c .before .before in
+    let s = f .before .before in
+    let k = s .args .self in
+    let l = s .pre in
+    let n = s .args .applet in
+    let q = s .args .request in
+    let e = f .install-refusal .ensures in
+    replies k l n q e
+    (⊎-elim
+    (λ w. with-newcomer k l n q e (w .0 .taken) (w .1 .ensures n) (w .2 .ensures) (w .3 .ensures) (w .4))
+    (λ w. as-it-was k l n q e (w .0 .left) (w .1))
+    (c .before .if1 .came))
+    (c .done-of .ensures)
 
 pub install-spec : {M : Type 1} → statement M
-install-spec = tie.close (tie.spec install-refusal-requires installed-requires returns returns-2)
+install-spec =
+    tie.close
+    (tie.spec
+    install-refusal-requires
+    granted-requires
+    roll-with-requires
+    turned-requires
+    done-of-requires
+    returns)

@@ -1,74 +1,123 @@
--- `new_entry`: refused or accepted by the table; the menu is marked where the applet is selectable.
--- Assumes nothing.
-use lib.ListN.{take}
-use Rattle.menu.specs.Table.{newRow}
-use Rattle.card.proofs.Left.{tidy-applets, tidy-rows}
-use Rattle.card.proofs.NewEntryLaws.{row-tidy, new-refused, new-accepted}
+use native.Mathlib.Omega.{arith}
+use mathlib.Core.Logic.{⊎-elim}
+use Rattle.card.proofs.Left.{tidy-rows}
+use Rattle.card.proofs.NewEntry.{row-tidy, made-few, new-refused, new-accepted}
+use borrow.Author.Needs.{needs}
 use Rattle.card.proofs.Card.new_entry.Statement.{statement}
 use Rattle.card.proofs.Card.new_entry.Tie as tie
+use Rattle.card.proofs.Card.new_entry.Reads as reads
+use Rattle.card.proofs.Card.new_entry.Lts as lts
+use Rattle.applets.proofs.grant_at.Reads as grant-at-reads
+use Rattle.applets.proofs.made_at.Reads as made-at-reads
+use Rattle.applets.proofs.made_with.Reads as made-with-reads
+use Rattle.applets.proofs.next_pair.Reads as next-pair-reads
+use Rattle.card.proofs.due_after.Reads as due-after-reads
+use Rattle.card.proofs.given_of.Reads as given-of-reads
+use Rattle.menu.proofs.inserted.Reads as inserted-reads
+use Rattle.refusals.proofs.fits.Reads as fits-reads
+use Rattle.refusals.proofs.new_refusal.Reads as new-refusal-reads
+use Rattle.rows.proofs.identifier_for.Reads as identifier-for-reads
+use Rattle.rows.proofs.row_of.Reads as row-of-reads
+use Rattle.sets.proofs.has.Reads as has-reads
 
-look-requires : tie.Need-look-requires
-look-requires c κs = tidy-applets _ (c .before .before .before .before .pre)
+-- src/entries.rt:22:13
+has-requires : tie.Need-has-requires
+has-requires c κs = search needs
 
+-- src/entries.rt:24:13
+grant-at-requires : tie.Need-grant-at-requires
+grant-at-requires c κs = search needs
+
+-- src/entries.rt:26:13
+made-at-requires : tie.Need-made-at-requires
+made-at-requires c κs = search needs
+
+-- src/entries.rt:27:13
+fits-requires : tie.Need-fits-requires
+fits-requires c κs = search needs
+
+-- src/entries.rt:28:13
 new-refusal-requires : tie.Need-new-refusal-requires
-new-refusal-requires c κs = tt
+new-refusal-requires c κs = search needs
 
+-- src/entries.rt:32:17
+next-pair-requires : tie.Need-next-pair-requires
+next-pair-requires c κs = search needs
+
+-- src/entries.rt:33:13
+identifier-for-requires : tie.Need-identifier-for-requires
+identifier-for-requires c κs = tidy-rows _ (c .before .before .before .before .before .before .before .before .before .before .before .pre)
+
+-- src/entries.rt:34:17
+row-of-requires : tie.Need-row-of-requires
+row-of-requires c κs = search needs
+
+-- src/entries.rt:35:17
+inserted-requires : tie.Need-inserted-requires
+inserted-requires c κs = (tidy-rows _ (c .before .before .before .before .before .before .before .before .before .before .before .before .before .pre), row-tidy _ (c .row-of .ensures))
+
+-- src/entries.rt:36:57
+add-made-with : tie.Need-add-made-with
+add-made-with c =
+    let b = c .before .before .before .before .before in
+    let r = b .before in
+    let f = r .before in
+    let k = f .before in
+    let g = k .before .before in
+    let h = g .before .before in
+    let s = h .before .before in
+    let few = made-few (s .args .self) (s .pre) (s .args .applet) (s .args .help) (s .args .text .now) (h .has .ensures) (g .grant-at .ensures) (k .made-at .ensures) (f .fits2 .ensures) (r .new-refusal .ensures) (b .if1 .taken) in
+    omega arith
+
+-- src/entries.rt:36:17
+made-with-requires : tie.Need-made-with-requires
+made-with-requires c κs = search needs
+
+-- src/entries.rt:37:17
+has-requires-2 : tie.Need-has-requires-2
+has-requires-2 c κs = search needs
+
+-- src/entries.rt:38:17
+due-after-requires : tie.Need-due-after-requires
+due-after-requires c κs = search needs
+
+-- src/entries.rt:43:13
+given-of-requires : tie.Need-given-of-requires
+given-of-requires c κs = search needs
+
+-- src/entries.rt:17:5
 returns : tie.Need-returns
 returns c =
-    let b = c .before in
-    let k = b .before .before in
-    let s = k .before .before .before .before .before in
-    let a = s .args in
-    new-refused (a .self) (s .pre) (a .applet) (a .help) (a .text .now) (k .look .result) (k .look .ensures) (b .new-refusal .ensures) (c .if1 .taken)
-
-next-pair-requires : tie.Need-next-pair-requires
-next-pair-requires c κs = tt
-
-identifier-for-requires : tie.Need-identifier-for-requires
-identifier-for-requires c κs = tidy-rows _ (c .before .before .before .before .before .before .before .before .before .pre)
-
-row-of-requires : tie.Need-row-of-requires
-row-of-requires c κs = tt
-
-inserted-requires : tie.Need-inserted-requires
-inserted-requires c κs =
-    let d = c .before .before .before in
-    let s = d .before .before .before .before .before .before .before .before in
-    let a = s .args in
-    (tidy-rows _ (s .pre), row-tidy (newRow (c .before .identifier-for .result) (a .applet) (a .help) (take 15 (a .text .now))) (c .row-of .ensures))
-
-one-more-requires : tie.Need-one-more-requires
-one-more-requires c κs = tidy-applets _ (c .before .before .before .before .before .before .before .before .before .before .before .before .pre)
-
-marked-requires : tie.Need-marked-requires
-marked-requires c κs = tt
-
-returns-2 : tie.Need-returns-2
-returns-2 c =
-    let d = c .before .before .before .before .before .before in
-    let b = d .before in
-    let k = b .before .before in
-    let s = k .before .before .before .before .before in
-    let a = s .args in
-    new-accepted (a .self) (s .pre) (a .applet) (a .help) (a .text .now) (k .look .result) (k .look .ensures) (b .new-refusal .ensures) (d .if1 .left)
-    (c .before .before .before .before .before .next-pair .ensures)
-    (c .before .before .before .before .identifier-for .ensures)
-    (c .before .before .before .row-of .ensures)
-    (c .before .before .inserted .ensures)
-    (c .before .one-more .ensures)
-    (c .marked .ensures)
+    let j = c .before in
+    let r = j .before in
+    let f = r .before in
+    let k = f .before in
+    let g = k .before .before in
+    let h = g .before .before in
+    let s = h .before .before in
+    ⊎-elim
+    (λ w. new-accepted (s .args .self) (s .pre) (s .args .applet) (s .args .help) (s .args .text .now) (h .has .ensures) (g .grant-at .ensures) (k .made-at .ensures) (f .fits2 .ensures) (r .new-refusal .ensures) (w .0 .taken)
+    (c .given-of .ensures) (w .2 .ensures) (w .3 .ensures) (w .4 .ensures) (w .5 .ensures) (w .6 .ensures) (w .7 .ensures) (w .8 .ensures) (w .10) (w .11))
+    (λ w. new-refused (s .args .self) (s .pre) (s .args .applet) (s .args .help) (s .args .text .now) (h .has .ensures) (g .grant-at .ensures) (k .made-at .ensures) (f .fits2 .ensures) (r .new-refusal .ensures)
+    (j .if1 .identifier) (c .given-of .ensures) (w .0 .left) (w .1))
+    (j .if1 .came)
 
 pub new-entry-spec : {M : Type 1} → statement M
 new-entry-spec =
     tie.close
     (tie.spec
-    look-requires
+    has-requires
+    grant-at-requires
+    made-at-requires
+    fits-requires
     new-refusal-requires
-    returns
     next-pair-requires
     identifier-for-requires
     row-of-requires
     inserted-requires
-    one-more-requires
-    marked-requires
-    returns-2)
+    add-made-with
+    made-with-requires
+    has-requires-2
+    due-after-requires
+    given-of-requires
+    returns)

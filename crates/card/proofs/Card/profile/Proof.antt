@@ -1,35 +1,74 @@
--- `profile`: refused where there are no bytes, else a session begins and those registered are called.
+-- `profile`: refused where there are no bytes, else a session begins; those registered are called.
 -- Assumes nothing.
-use Rattle.card.proofs.Left.{tidy-applets, tidy-rows}
-use Rattle.card.proofs.ArrivalLaws.{profile-refuses, profile-accepts}
+use borrow.Author.Needs.{needs}
+use Rattle.card.proofs.Left.{tidy-rows}
+use Rattle.card.proofs.Order.{count-small}
+use Rattle.card.proofs.Profile.{begins-session, refuses-profile}
 use Rattle.card.proofs.Card.profile.Statement.{statement}
 use Rattle.card.proofs.Card.profile.Tie as tie
 
-refused-requires : tie.Need-refused-requires
-refused-requires c κs = tt
+refusal-if-requires : tie.Need-refusal-if-requires
+refusal-if-requires c κs = search needs
 
-returns : tie.Need-returns
-returns c = profile-refuses _ (c .before .before .before .pre) _ (c .before .if1 .taken) (c .refused .ensures)
+array-read-whom : tie.Need-array-read-whom
+array-read-whom c = search needs
 
-called-for-event-requires : tie.Need-called-for-event-requires
-called-for-event-requires c κs = tidy-applets _ (c .before .before .before .before .before .pre)
+called-requires : tie.Need-called-requires
+called-requires c κs = search needs
+
+listed-requires : tie.Need-listed-requires
+listed-requires c κs = count-small _ (c .before .before .before .before .before .pre)
 
 proactive-only-requires : tie.Need-proactive-only-requires
-proactive-only-requires c κs = tt
+proactive-only-requires c κs = search needs
 
-named-requires : tie.Need-named-requires
-named-requires c κs = tt
+answered-requires : tie.Need-answered-requires
+answered-requires c κs = search needs
+
+has-shown-row-requires : tie.Need-has-shown-row-requires
+has-shown-row-requires c κs = tidy-rows _ (c .before .before .before .before .before .before .before .before .before .pre)
+
+any-listened-requires : tie.Need-any-listened-requires
+any-listened-requires c κs = search needs
 
 begun-requires : tie.Need-begun-requires
-begun-requires c κs =
-    let s = c .before .before .before .before .before .before .before .before in
-    (tidy-applets _ (s .pre), tidy-rows _ (s .pre))
+begun-requires c κs = search needs
+
+returns : tie.Need-returns
+returns c =
+    let d = c .before in
+    let y = d .before .before in
+    let x = y .before in
+    let a = x .before .before in
+    let n = a .before in
+    let k = n .before in
+    let w = k .before .before in
+    let r = w .before .before in
+    begins-session _ (r .before .before .pre) _ (r .refusal-if .ensures) (w .called .ensures) (k .listed .ensures) (n .proactive-only .ensures) (a .answered .ensures)
+    (x .has-shown-row .ensures) (y .any-listened .ensures) (d .begun .ensures) (c .if1 .taken)
 
 returns-2 : tie.Need-returns-2
 returns-2 c =
-    let k = c .before .before .before in
-    let i = k .before .before .before .before in
-    profile-accepts _ (i .before .before .pre) _ (i .if1 .left) (k .called-for-event .ensures) (c .before .before .proactive-only .ensures) (c .before .named .ensures) (c .begun .ensures)
+    let a = c .before .before .before .before .before .before in
+    let n = a .before in
+    let k = n .before in
+    let w = k .before .before in
+    let r = w .before .before in
+    refuses-profile _ (r .before .before .pre) _ (r .refusal-if .ensures) (w .called .ensures) (k .listed .ensures) (n .proactive-only .ensures) (a .answered .ensures)
+    (c .if1 .left)
 
 pub profile-spec : {M : Type 1} → statement M
-profile-spec = tie.close (tie.spec refused-requires returns called-for-event-requires proactive-only-requires named-requires begun-requires returns-2)
+profile-spec =
+    tie.close
+    (tie.spec
+    refusal-if-requires
+    array-read-whom
+    called-requires
+    listed-requires
+    proactive-only-requires
+    answered-requires
+    has-shown-row-requires
+    any-listened-requires
+    begun-requires
+    returns
+    returns-2)

@@ -1,29 +1,33 @@
--- `release`: refused where there is no such applet, else what the bank's call gives.
--- Assumes nothing.
-use Rattle.card.proofs.Left.{tidy-applets}
-use Rattle.card.proofs.TimerLaws.{release-refuses, release-gives}
+use Rattle.card.proofs.Timers.{releases}
+use borrow.Author.Needs.{needs}
 use Rattle.card.proofs.Card.release.Statement.{statement}
 use Rattle.card.proofs.Card.release.Tie as tie
+use Rattle.card.proofs.Card.release.Reads as reads
+use Rattle.card.proofs.Card.release.Lts as lts
+use Rattle.card.proofs.timing.owner_for.Reads as owner-for-reads
+use Rattle.sets.proofs.has.Reads as has-reads
+use Rattle.timers.proofs.release.Reads as release-reads
 
-look-requires : tie.Need-look-requires
-look-requires c κs = tidy-applets (c .before .args .self) (c .before .pre)
+-- src/timing.rt:47:13
+has-requires : tie.Need-has-requires
+has-requires c κs = search needs
 
+-- src/timing.rt:48:13
+owner-for-requires : tie.Need-owner-for-requires
+owner-for-requires c κs = search needs
+
+-- src/timing.rt:50:13
 release-requires : tie.Need-release-requires
-release-requires c κs = tt
+release-requires c κs = search needs
 
+-- src/timing.rt:42:5
 returns : tie.Need-returns
 returns c =
-    let call = c .before .release in
-    let there = c .before .before .before in
-    let at = there .before in
-    let b = at .before .before in
-    release-gives (b .args .self) (b .pre) (b .args .applet) (at .look .result) (at .look .ensures) (b .args .timer) (there .if1 .taken) (call .result .answer) (call .result .bank) (call .ensures)
-
-returns-2 : tie.Need-returns-2
-returns-2 c =
-    let at = c .before in
-    let b = at .before .before in
-    release-refuses (b .args .self) (b .pre) (b .args .applet) (at .look .result) (at .look .ensures) (b .args .timer) (c .if1 .left)
+    let a = c .before in
+    let o = a .before .before in
+    let h = o .before in
+    let s = h .before in
+    releases (s .args .self) (s .pre) (s .args .applet) (h .has .ensures) (s .args .timer) (o .owner-for .ensures) (a .release .ensures)
 
 pub release-spec : {M : Type 1} → statement M
-release-spec = tie.close (tie.spec look-requires release-requires returns returns-2)
+release-spec = tie.close (tie.spec has-requires owner-for-requires release-requires returns)

@@ -1,21 +1,33 @@
--- `response`: accepted where a command is outstanding, else refused.
--- Assumes nothing.
-use Rattle.card.proofs.ProactiveLaws.{response-refuses, response-accepts}
+use Rattle.card.proofs.Sends.{responds}
+use borrow.Author.Needs.{needs}
 use Rattle.card.proofs.Card.response.Statement.{statement}
 use Rattle.card.proofs.Card.response.Tie as tie
+use Rattle.card.proofs.Card.response.Reads as reads
+use Rattle.card.proofs.Card.response.Lts as lts
+use Rattle.card.proofs.done_of.Reads as done-of-reads
+use Rattle.card.proofs.proactive.outstanding_after.Reads as outstanding-after-reads
+use Rattle.refusals.proofs.response_refusal.Reads as response-refusal-reads
 
+-- src/proactive.rt:47:13
 response-refusal-requires : tie.Need-response-refusal-requires
-response-refusal-requires c κs = tt
+response-refusal-requires c κs = search needs
 
+-- src/proactive.rt:48:13
+outstanding-after-requires : tie.Need-outstanding-after-requires
+outstanding-after-requires c κs = search needs
+
+-- src/proactive.rt:50:13
+done-of-requires : tie.Need-done-of-requires
+done-of-requires c κs = search needs
+
+-- src/proactive.rt:41:5
 returns : tie.Need-returns
 returns c =
-    let r = c .before in
-    response-accepts _ (r .before .before .pre) _ (r .response-refusal .ensures) (c .if1 .taken)
-
-returns-2 : tie.Need-returns-2
-returns-2 c =
-    let r = c .before in
-    response-refuses _ (r .before .before .pre) _ (r .response-refusal .ensures) (c .if1 .left)
+    let o = c .before .before in
+    let r = o .before in
+    responds (r .before .args .self) (r .before .pre) (r .response-refusal .ensures) (o .outstanding-after .ensures) (c .done-of .ensures)
 
 pub response-spec : {M : Type 1} → statement M
-response-spec = tie.close (tie.spec response-refusal-requires returns returns-2)
+response-spec =
+    tie.close
+    (tie.spec response-refusal-requires outstanding-after-requires done-of-requires returns)

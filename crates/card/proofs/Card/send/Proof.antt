@@ -1,37 +1,54 @@
--- `send`: accepted where no line of its refusal holds.
--- Assumes nothing.
 use denote.Ref.{now}
-use Rattle.card.proofs.Left.{tidy-applets}
-use Rattle.card.proofs.ProactiveLaws.{send-refuses, send-accepts}
+use Rattle.card.proofs.Sends.{sends}
+use borrow.Author.Needs.{needs}
 use Rattle.card.proofs.Card.send.Statement.{statement}
 use Rattle.card.proofs.Card.send.Tie as tie
+use Rattle.card.proofs.Card.send.Reads as reads
+use Rattle.card.proofs.Card.send.Lts as lts
+use Rattle.card.proofs.done_of.Reads as done-of-reads
+use Rattle.card.proofs.proactive.outstanding_after.Reads as outstanding-after-reads
+use Rattle.envelopes.proofs.read_command.Reads as read-command-reads
+use Rattle.refusals.proofs.send_refusal.Reads as send-refusal-reads
+use Rattle.sets.proofs.has.Reads as has-reads
 
+-- src/proactive.rt:28:13
 read-command-requires : tie.Need-read-command-requires
-read-command-requires c κs = tt
+read-command-requires c κs = search needs
 
-look-requires : tie.Need-look-requires
-look-requires c κs = let b = c .before .before .before in tidy-applets (b .args .self) (b .pre)
+-- src/proactive.rt:30:13
+has-requires : tie.Need-has-requires
+has-requires c κs = search needs
 
+-- src/proactive.rt:33:13
 send-refusal-requires : tie.Need-send-refusal-requires
-send-refusal-requires c κs = tt
+send-refusal-requires c κs = search needs
 
+-- src/proactive.rt:34:13
+outstanding-after-requires : tie.Need-outstanding-after-requires
+outstanding-after-requires c κs = search needs
+
+-- src/proactive.rt:36:13
+done-of-requires : tie.Need-done-of-requires
+done-of-requires c κs = search needs
+
+-- src/proactive.rt:24:5
 returns : tie.Need-returns
 returns c =
-    let asked = c .before .send-refusal in
-    let look = c .before .before .before .before in
-    let read = look .before .before in
-    let b = read .before .before in
-    send-accepts (b .args .self) (b .pre) (b .args .applet) (now (b .args .bytes)) (read .read-command .result) (read .read-command .ensures) (look .look .result) (look .look .ensures) (asked .result) (asked .ensures) (c .if1 .taken)
-
-returns-2 : tie.Need-returns-2
-returns-2 c =
-    let asked = c .before .send-refusal in
-    let look = c .before .before .before .before in
-    let read = look .before .before in
-    let b = read .before .before in
-    send-refuses (b .args .self) (b .pre) (b .args .applet) (now (b .args .bytes)) (read .read-command .result) (read .read-command .ensures) (look .look .result) (look .look .ensures) (asked .result) (asked .ensures) (c .if1 .left)
+    let o = c .before .before in
+    let r = o .before in
+    let h = r .before .before in
+    let k = h .before in
+    let s = k .before .before in
+    sends (s .args .self) (s .pre) (s .args .applet) (now (s .args .bytes)) (k .read-command .ensures) (h .has .ensures)
+    (r .send-refusal .ensures) (o .outstanding-after .ensures) (c .done-of .ensures)
 
 pub send-spec : {M : Type 1} → statement M
 send-spec =
     tie.close
-    (tie.spec read-command-requires look-requires send-refusal-requires returns returns-2)
+    (tie.spec
+    read-command-requires
+    has-requires
+    send-refusal-requires
+    outstanding-after-requires
+    done-of-requires
+    returns)

@@ -1,46 +1,104 @@
--- `set_event`: refused, or the registration changed: call control by its owner, any other event by the applet.
--- Assumes nothing.
-use mathlib.Core.Path.{refl}
 use mathlib.Core.Bool.{true}
 use Rattle.events.proofs.Places.{kind-of-value, place-within}
-use Rattle.card.proofs.Left.{tidy-applets}
-use Rattle.card.proofs.Registered.{control-registers, event-registers}
-use Rattle.card.proofs.EventLaws.{set-finds, set-refuses, set-accepts}
+use Rattle.card.proofs.Events.{turns-event}
+use borrow.Author.Needs.{needs}
 use Rattle.card.proofs.Card.set_event.Statement.{statement}
 use Rattle.card.proofs.Card.set_event.Tie as tie
+use Rattle.card.proofs.Card.set_event.Reads as reads
+use Rattle.card.proofs.Card.set_event.Lts as lts
+use Rattle.card.proofs.done_of.Reads as done-of-reads
+use Rattle.card.proofs.due_after.Reads as due-after-reads
+use Rattle.card.proofs.registering.owner_after.Reads as owner-after-reads
+use Rattle.card.proofs.registering.set_after.Reads as set-after-reads
+use Rattle.downloads.proofs.events_turn.Reads as events-turn-reads
+use Rattle.events.proofs.kind_of.Reads as kind-of-reads
+use Rattle.events.proofs.place_of.Reads as place-of-reads
+use Rattle.refusals.proofs.refusal_to_set.Reads as refusal-to-set-reads
+use Rattle.sets.proofs.has.Reads as has-reads
 
-turn-event-requires : tie.Need-turn-event-requires
-turn-event-requires c κs = c .pre
+-- src/registering.rt:77:13
+kind-of-requires : tie.Need-kind-of-requires
+kind-of-requires c κs = search needs
 
+-- src/registering.rt:78:13
+has-requires : tie.Need-has-requires
+has-requires c κs = search needs
+
+-- src/registering.rt:79:13
+refusal-to-set-requires : tie.Need-refusal-to-set-requires
+refusal-to-set-requires c κs = search needs
+
+-- src/registering.rt:80:13
+place-of-requires : tie.Need-place-of-requires
+place-of-requires c κs = search needs
+
+-- src/registering.rt:81:17
+cast-p : tie.Need-cast-p
+cast-p c = search needs
+
+-- src/registering.rt:83:19
+array-read-was : tie.Need-array-read-was
+array-read-was c =
+    let p = c .before in
+    let k = p .before .before .before in
+    place-within _ (kind-of-value _ (k .before .fits .value) (k .kind-of .ensures)) (p .place-of .ensures)
+
+-- src/registering.rt:84:13
+set-after-requires : tie.Need-set-after-requires
+set-after-requires c κs = search needs
+
+-- src/registering.rt:85:13
+events-turn-requires : tie.Need-events-turn-requires
+events-turn-requires c κs = search needs
+
+-- src/registering.rt:86:13
+owner-after-requires : tie.Need-owner-after-requires
+owner-after-requires c κs = search needs
+
+-- src/registering.rt:87:13
+due-after-requires : tie.Need-due-after-requires
+due-after-requires c κs = search needs
+
+-- src/registering.rt:88:9
+array-write-registered : tie.Need-array-write-registered
+array-write-registered c =
+    let p = c .before .before .before .before .before in
+    let k = p .before .before .before in
+    place-within _ (kind-of-value _ (k .before .fits .value) (k .kind-of .ensures)) (p .place-of .ensures)
+
+-- src/registering.rt:92:13
+done-of-requires : tie.Need-done-of-requires
+done-of-requires c κs = search needs
+
+-- src/registering.rt:72:5
 returns : tie.Need-returns
 returns c =
-    let t = c .before in
-    let s = t .before in
-    set-refuses (s .args .self) (s .pre) (s .args .applet) _ _ refl _ (kind-of-value _ (s .fits .value) refl) (t .turn-event .ensures .0) (c .if1 .taken)
-
-returns-2 : tie.Need-returns-2
-returns-2 c =
-    let e = c .before in
-    let t = e .before in
-    let s = t .before in
-    set-accepts (s .args .self) (s .pre) (s .args .applet) _ _ refl _ (kind-of-value _ (s .fits .value) refl) (t .turn-event .ensures .0) (e .if1 .left) (t .turn-event .ensures .1)
-    (control-registers (s .args .self) (s .pre) (s .args .applet) _ true (c .if2 .taken) refl)
-
-registered-requires : tie.Need-registered-requires
-registered-requires c κs = tidy-applets _ (c .before .before .before .before .pre)
-
-returns-3 : tie.Need-returns-3
-returns-3 c =
-    let o = c .before .before .before in
+    let d = c .before .before in
+    let o = d .before in
     let e = o .before in
-    let t = e .before in
-    let s = t .before in
-    let is = kind-of-value _ (s .fits .value) refl in
-    set-accepts (s .args .self) (s .pre) (s .args .applet) _ _ refl _ is (t .turn-event .ensures .0) (e .if1 .left) (t .turn-event .ensures .1)
-    (event-registers (s .args .self) (s .pre) (s .args .applet) _ true (o .if2 .left)
-    (place-within _ refl (t .turn-event .ensures .1)) _ refl
-    (set-finds (s .args .self) (s .pre) (s .args .applet) _ _ refl _ is (t .turn-event .ensures .0) (e .if1 .left))
-    refl (c .before .registered .ensures) (t .turn-event .ensures .2))
+    let g = e .before in
+    let p = g .before .before in
+    let r = p .before in
+    let h = r .before in
+    let k = h .before in
+    let s = k .before in
+    turns-event (s .args .self) (s .pre) (s .args .applet) (s .args .value) true (kind-of-value _ (s .fits .value) (k .kind-of .ensures))
+    (h .has .ensures) (r .refusal-to-set .ensures) (p .place-of .ensures) (g .set-after .ensures) (e .events-turn .ensures) (o .owner-after .ensures) (d .due-after .ensures) (c .done-of .ensures)
 
 pub set-event-spec : {M : Type 1} → statement M
-set-event-spec = tie.close (tie.spec turn-event-requires returns returns-2 registered-requires returns-3)
+set-event-spec =
+    tie.close
+    (tie.spec
+    kind-of-requires
+    has-requires
+    refusal-to-set-requires
+    place-of-requires
+    cast-p
+    array-read-was
+    set-after-requires
+    events-turn-requires
+    owner-after-requires
+    due-after-requires
+    array-write-registered
+    done-of-requires
+    returns)

@@ -1,41 +1,54 @@
--- `settled`: refused where a command is outstanding, else those registered are called and unregistered.
+-- `settled`: refused where a command is outstanding; those called are registered no longer.
 -- Assumes nothing.
-use Rattle.card.proofs.Left.{tidy-applets}
-use Rattle.card.proofs.ArrivalLaws.{settled-refuses, settled-accepts}
+use borrow.Author.Needs.{needs}
+use Rattle.card.proofs.Order.{count-small}
+use Rattle.card.proofs.Settled.{settles}
 use Rattle.card.proofs.Card.settled.Statement.{statement}
 use Rattle.card.proofs.Card.settled.Tie as tie
 
-refused-requires : tie.Need-refused-requires
-refused-requires c κs = tt
+refusal-if-requires : tie.Need-refusal-if-requires
+refusal-if-requires c κs = search needs
 
-returns : tie.Need-returns
-returns c = settled-refuses _ (c .before .before .pre) (c .before .if1 .taken) (c .refused .ensures)
+array-read-whom : tie.Need-array-read-whom
+array-read-whom c = search needs
 
-called-for-event-requires : tie.Need-called-for-event-requires
-called-for-event-requires c κs = tidy-applets _ (c .before .before .pre)
+called-requires : tie.Need-called-requires
+called-requires c κs = search needs
+
+without-requires : tie.Need-without-requires
+without-requires c κs = search needs
+
+array-write-registered : tie.Need-array-write-registered
+array-write-registered c = search needs
+
+listed-requires : tie.Need-listed-requires
+listed-requires c κs = count-small _ (c .before .before .before .before .before .pre)
 
 proactive-only-requires : tie.Need-proactive-only-requires
-proactive-only-requires c κs = tt
+proactive-only-requires c κs = search needs
 
-named-requires : tie.Need-named-requires
-named-requires c κs = tt
+answered-requires : tie.Need-answered-requires
+answered-requires c κs = search needs
 
-settled-requires : tie.Need-settled-requires
-settled-requires c κs = tidy-applets _ (c .before .before .before .before .before .pre)
-
-returns-2 : tie.Need-returns-2
-returns-2 c =
-    let b = c .before .before .before in
-    settled-accepts _ (b .before .before .before .pre) (b .before .before .if1 .left) (b .called-for-event .ensures) (c .before .before .proactive-only .ensures) (c .before .named .ensures) (c .settled .ensures)
+returns : tie.Need-returns
+returns c =
+    let n = c .before in
+    let k = n .before in
+    let o = k .before .before in
+    let w = o .before in
+    let r = w .before .before in
+    settles _ (r .before .pre) (r .refusal-if .ensures) (w .called .ensures) (o .without .ensures) (k .listed .ensures) (n .proactive-only .ensures) (c .answered .ensures)
 
 pub settled-spec : {M : Type 1} → statement M
 settled-spec =
     tie.close
     (tie.spec
-    refused-requires
-    returns
-    called-for-event-requires
+    refusal-if-requires
+    array-read-whom
+    called-requires
+    without-requires
+    array-write-registered
+    listed-requires
     proactive-only-requires
-    named-requires
-    settled-requires
-    returns-2)
+    answered-requires
+    returns)

@@ -1,31 +1,75 @@
--- `unlock`: refused where no applet has the number; else the applet becomes selectable.
--- Assumes nothing.
-use mathlib.Core.Path.{refl, sym, _∙_}
 use mathlib.Core.Bool.{true}
-use borrow.Author.Tests.{not-true, not-false}
-use Rattle.card.proofs.Left.{tidy-applets}
-use Rattle.card.proofs.AdminLaws.{lock-refuses, lock-accepts}
+use Rattle.card.proofs.Left.{tidy-rows}
+use Rattle.card.proofs.Locks.{turns-lock}
+use borrow.Author.Needs.{needs}
 use Rattle.card.proofs.Card.unlock.Statement.{statement}
 use Rattle.card.proofs.Card.unlock.Tie as tie
+use Rattle.card.proofs.Card.unlock.Reads as reads
+use Rattle.card.proofs.Card.unlock.Lts as lts
+use Rattle.card.proofs.done_of.Reads as done-of-reads
+use Rattle.card.proofs.due_after.Reads as due-after-reads
+use Rattle.card.proofs.locking.absent_refusal.Reads as absent-refusal-reads
+use Rattle.downloads.proofs.codes_turn.Reads as codes-turn-reads
+use Rattle.card.proofs.locking.locks_after.Reads as locks-after-reads
+use Rattle.card.proofs.locking.menu_turns.Reads as menu-turns-reads
+use Rattle.sets.proofs.has.Reads as has-reads
 
-turn-lock-requires : tie.Need-turn-lock-requires
-turn-lock-requires c κs = c .pre
+-- src/locking.rt:94:13
+has-requires : tie.Need-has-requires
+has-requires c κs = search needs
 
+-- src/locking.rt:96:13
+locks-after-requires : tie.Need-locks-after-requires
+locks-after-requires c κs = search needs
+
+-- src/locking.rt:98:13
+menu-turns-requires : tie.Need-menu-turns-requires
+menu-turns-requires c κs = tidy-rows _ (c .before .before .before .pre)
+
+-- src/locking.rt:100:13
+codes-turn-requires : tie.Need-codes-turn-requires
+codes-turn-requires c κs = search needs
+
+-- src/locking.rt:101:13
+due-after-requires : tie.Need-due-after-requires
+due-after-requires c κs = search needs
+
+-- src/locking.rt:102:13
+due-after-requires-2 : tie.Need-due-after-requires-2
+due-after-requires-2 c κs = search needs
+
+-- src/locking.rt:106:13
+absent-refusal-requires : tie.Need-absent-refusal-requires
+absent-refusal-requires c κs = search needs
+
+-- src/locking.rt:107:13
+done-of-requires : tie.Need-done-of-requires
+done-of-requires c κs = search needs
+
+-- src/locking.rt:89:5
 returns : tie.Need-returns
 returns c =
-    let t = c .before .before in
-    let s = t .before in
-    lock-refuses (s .args .self) (s .pre) (s .args .applet) _ refl true (sym (t .turn-lock .ensures .0) ∙ not-true _ (c .if1 .taken))
-
-locked-requires : tie.Need-locked-requires
-locked-requires c κs = tidy-applets _ (c .before .before .before .before .pre)
-
-returns-2 : tie.Need-returns-2
-returns-2 c =
-    let e = c .before .before .before in
-    let t = e .before .before in
-    let s = t .before in
-    lock-accepts (s .args .self) (s .pre) (s .args .applet) _ refl true (sym (t .turn-lock .ensures .0) ∙ not-false _ (e .if1 .left)) (c .before .locked .ensures) (t .turn-lock .ensures .1)
+    let a = c .before in
+    let y = a .before .before .before in
+    let x = y .before in
+    let e = x .before in
+    let m = e .before .before in
+    let g = m .before .before in
+    let h = g .before in
+    let s = h .before in
+    turns-lock (s .args .self) (s .pre) (s .args .applet) true (h .has .ensures) (a .absent-refusal .ensures)
+    (g .locks-after .ensures) (m .menu-turns .ensures) (e .codes-turn .ensures) (x .due-after .ensures) (y .due-after2 .ensures) (c .done-of .ensures)
 
 pub unlock-spec : {M : Type 1} → statement M
-unlock-spec = tie.close (tie.spec turn-lock-requires returns locked-requires returns-2)
+unlock-spec =
+    tie.close
+    (tie.spec
+    has-requires
+    locks-after-requires
+    menu-turns-requires
+    codes-turn-requires
+    due-after-requires
+    due-after-requires-2
+    absent-refusal-requires
+    done-of-requires
+    returns)

@@ -1,33 +1,41 @@
--- `made` meets its contract: no applet, no row, no owner, and the title on an idle desk.
--- Assumes nothing.
 use mathlib.Core.Path.{ap, _∙_}
 use denote.Ref.{now}
 use lib.Seq.{take-all}
 use Rattle.lists.specs.Lists.{padded}
+use Rattle.card.proofs.FreshCard.{fresh-is}
 use borrow.Author.Needs.{needs}
-use Rattle.card.proofs.FreshLaws.{fresh-is}
 use Rattle.card.proofs.fresh.made.Statement.{statement}
 use Rattle.card.proofs.fresh.made.Tie as tie
+use Rattle.card.proofs.fresh.made.Reads as reads
+use Rattle.card.proofs.fresh.made.Lts as lts
+use Rattle.applets.proofs.no_roll.Reads as no-roll-reads
+use Rattle.menu.proofs.no_rows.Reads as no-rows-reads
+use Rattle.writing.proofs.held_title.Reads as held-title-reads
 
-no-applets-requires : tie.Need-no-applets-requires
-no-applets-requires c κs = tt
+-- src/fresh.rt:34:9
+no-roll-requires : tie.Need-no-roll-requires
+no-roll-requires c κs = search needs
 
+-- src/fresh.rt:35:9
 no-rows-requires : tie.Need-no-rows-requires
-no-rows-requires c κs = tt
+no-rows-requires c κs = search needs
 
+-- src/fresh.rt:39:9
 held-title-requires : tie.Need-held-title-requires
-held-title-requires c κs = tt
+held-title-requires c κs = search needs
 
-cast-t9 : tie.Need-cast-t9
-cast-t9 c = search needs
+-- src/fresh.rt:48:20
+cast-t10 : tie.Need-cast-t10
+cast-t10 c = search needs
 
+-- src/fresh.rt:30:1
 returns : tie.Need-returns
 returns c =
     let rows = c .before in
-    let applets = rows .before in
-    let title = now (applets .before .before .args .title) in
-    fresh-is title (applets .no-applets .ensures) (rows .no-rows .ensures) (c .held-title .ensures ∙ ap (padded 20 0) (take-all 20 title (applets .before .before .pre)))
+    let roll = rows .before in
+    let title = now (roll .before .before .args .title) in
+    fresh-is title (roll .no-roll .ensures) (rows .no-rows .ensures) (c .held-title .ensures ∙ ap (padded 20 0) (take-all 20 title (roll .before .before .pre)))
 
 pub made-spec : {M : Type 1} → statement M
 made-spec =
-    tie.close (tie.spec no-applets-requires no-rows-requires held-title-requires cast-t9 returns)
+    tie.close (tie.spec no-roll-requires no-rows-requires held-title-requires cast-t10 returns)

@@ -8,7 +8,7 @@ use Rattle.rules.specs.Calls.{event, clearEvent}
 use Rattle.rules.specs.Step.{step}
 use Rattle.card.specs.View.{view}
 use Rattle.card.specs.Reply.{changedBy}
-use Rattle.bridge.specs.Sequences.{is-clear}
+use Rattle.card.specs.Kinds.{is-clear}
 use Rattle.port.proofs.PostLaws.{done-posts}
 use borrow.Author.Needs.{needs}
 use Rattle.port.proofs.deeds.clear_event.Statement.{statement}

@@ -1,6 +1,6 @@
 -- `port::deeds::delete` meets its contract.
 -- Assumes nothing.
-use Rattle.bridge.specs.Sequences.{is-admin}
+use Rattle.card.specs.Kinds.{is-admin}
 use Rattle.port.proofs.PostLaws.{done-posts}
 use borrow.Author.Needs.{needs}
 use Rattle.port.proofs.deeds.delete.Statement.{statement}

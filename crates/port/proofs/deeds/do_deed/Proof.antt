@@ -1,18 +1,17 @@
 -- `port::deeds::do_deed` meets its contract.
 -- Assumes nothing.
-use Prim.Native.Nat.{ℕ}
 use mathlib.Core.Path.{ap, _∙_}
 use lib.IntN.{ℤ}
 use mir.Syntax.{w16}
 use mir.ValLaws.{toZ-ofZ}
 use denote.Ref.{now}
 use Rattle.rules.specs.declared.Request.{Request}
-use Rattle.rules.specs.Calls.{admin, event, entry, timer, install, setEvent, clearEvent, enableEntry, disableEntry, release}
+use Rattle.rules.specs.Calls.{admin, event, install, setEvent, clearEvent}
 use Rattle.rules.specs.Step.{step}
 use Rattle.card.specs.View.{view}
 use Rattle.asks.specs.Asks.{deedCall}
 use Rattle.port.specs.Posts.{postedBy}
-use Rattle.port.proofs.PostLaws.{deed-as, change-as}
+use Rattle.port.proofs.PostLaws.{deed-as}
 use borrow.Author.Needs.{needs}
 use Rattle.port.proofs.deeds.do_deed.Statement.{statement}
 use Rattle.port.proofs.deeds.do_deed.Tie as tie
@@ -65,54 +64,6 @@ clear-event-requires c κs = search needs
 enum-told-7 : tie.Need-enum-told-7
 enum-told-7 c = search needs
 
-byte-at-requires : tie.Need-byte-at-requires
-byte-at-requires c κs = search needs
-
-byte-at-requires-2 : tie.Need-byte-at-requires-2
-byte-at-requires-2 c κs = search needs
-
-from-requires : tie.Need-from-requires
-from-requires c κs = search needs
-
-change-entry-requires : tie.Need-change-entry-requires
-change-entry-requires c κs = search needs
-
-enum-told-8 : tie.Need-enum-told-8
-enum-told-8 c = search needs
-
-byte-at-requires-3 : tie.Need-byte-at-requires-3
-byte-at-requires-3 c κs = search needs
-
-enable-entry-requires : tie.Need-enable-entry-requires
-enable-entry-requires c κs = search needs
-
-enum-told-9 : tie.Need-enum-told-9
-enum-told-9 c = search needs
-
-byte-at-requires-4 : tie.Need-byte-at-requires-4
-byte-at-requires-4 c κs = search needs
-
-disable-entry-requires : tie.Need-disable-entry-requires
-disable-entry-requires c κs = search needs
-
-enum-told-10 : tie.Need-enum-told-10
-enum-told-10 c = search needs
-
-byte-at-requires-5 : tie.Need-byte-at-requires-5
-byte-at-requires-5 c κs = search needs
-
-release-requires : tie.Need-release-requires
-release-requires c κs = search needs
-
-enum-told-11 : tie.Need-enum-told-11
-enum-told-11 c = search needs
-
-send-requires : tie.Need-send-requires
-send-requires c κs = search needs
-
-enum-told-12 : tie.Need-enum-told-12
-enum-told-12 c = search needs
-
 response-requires : tie.Need-response-requires
 response-requires c κs = search needs
 
@@ -161,44 +112,9 @@ returns-6 c =
 returns-7 : tie.Need-returns-7
 unfolding deedCall
 returns-7 c =
-    let e = c .before .before .before .before in
-    let s = e .before .before .before in
-    deed-as _ (s .args .applet) (now (s .args .bytes)) (e .enum-told7 .given .1) (c .change-entry .ensures ∙ change-as _ _ (c .before .before .before .byte-at .ensures) (c .before .before .byte-at2 .ensures) (c .before .from .ensures))
-
-returns-8 : tie.Need-returns-8
-unfolding deedCall
-returns-8 c =
-    let e = c .before .before in
-    let s = e .before .before .before in
-    deed-as _ (s .args .applet) (now (s .args .bytes)) (e .enum-told8 .given .1) (c .enable-entry .ensures ∙ ap (λ (i : ℕ). postedBy (step (view (s .args .card)) (entry (enableEntry (s .args .applet) i)))) (c .before .byte-at3 .ensures))
-
-returns-9 : tie.Need-returns-9
-unfolding deedCall
-returns-9 c =
-    let e = c .before .before in
-    let s = e .before .before .before in
-    deed-as _ (s .args .applet) (now (s .args .bytes)) (e .enum-told9 .given .1) (c .disable-entry .ensures ∙ ap (λ (i : ℕ). postedBy (step (view (s .args .card)) (entry (disableEntry (s .args .applet) i)))) (c .before .byte-at4 .ensures))
-
-returns-10 : tie.Need-returns-10
-unfolding deedCall
-returns-10 c =
-    let e = c .before .before in
-    let s = e .before .before .before in
-    deed-as _ (s .args .applet) (now (s .args .bytes)) (e .enum-told10 .given .1) (c .release .ensures ∙ ap (λ (i : ℕ). postedBy (step (view (s .args .card)) (timer (release (s .args .applet) i)))) (c .before .byte-at5 .ensures))
-
-returns-11 : tie.Need-returns-11
-unfolding deedCall
-returns-11 c =
     let e = c .before in
     let s = e .before .before .before in
-    deed-as _ (s .args .applet) (now (s .args .bytes)) (e .enum-told11 .given .1) (c .send .ensures)
-
-returns-12 : tie.Need-returns-12
-unfolding deedCall
-returns-12 c =
-    let e = c .before in
-    let s = e .before .before .before in
-    deed-as _ (s .args .applet) (now (s .args .bytes)) (e .enum-told12 .given .1) (c .response .ensures)
+    deed-as _ (s .args .applet) (now (s .args .bytes)) (e .enum-told7 .given .1) (c .response .ensures)
 
 pub do-deed-spec : {M : Type 1} → statement M
 do-deed-spec =
@@ -220,22 +136,6 @@ do-deed-spec =
     value-of-requires-2
     clear-event-requires
     enum-told-7
-    byte-at-requires
-    byte-at-requires-2
-    from-requires
-    change-entry-requires
-    enum-told-8
-    byte-at-requires-3
-    enable-entry-requires
-    enum-told-9
-    byte-at-requires-4
-    disable-entry-requires
-    enum-told-10
-    byte-at-requires-5
-    release-requires
-    enum-told-11
-    send-requires
-    enum-told-12
     response-requires
     returns
     returns-2
@@ -243,9 +143,4 @@ do-deed-spec =
     returns-4
     returns-5
     returns-6
-    returns-7
-    returns-8
-    returns-9
-    returns-10
-    returns-11
-    returns-12)
+    returns-7)

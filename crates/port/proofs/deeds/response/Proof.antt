@@ -1,6 +1,6 @@
 -- `port::deeds::response` meets its contract.
 -- Assumes nothing.
-use Rattle.bridge.specs.Sequences.{is-proactive}
+use Rattle.card.specs.Kinds.{is-proactive}
 use Rattle.port.proofs.PostLaws.{done-posts}
 use borrow.Author.Needs.{needs}
 use Rattle.port.proofs.deeds.response.Statement.{statement}

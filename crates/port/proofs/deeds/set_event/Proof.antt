@@ -8,7 +8,7 @@ use Rattle.rules.specs.Calls.{event, setEvent}
 use Rattle.rules.specs.Step.{step}
 use Rattle.card.specs.View.{view}
 use Rattle.card.specs.Reply.{changedBy}
-use Rattle.bridge.specs.Sequences.{is-set}
+use Rattle.card.specs.Kinds.{is-set}
 use Rattle.port.proofs.PostLaws.{done-posts}
 use borrow.Author.Needs.{needs}
 use Rattle.port.proofs.deeds.set_event.Statement.{statement}

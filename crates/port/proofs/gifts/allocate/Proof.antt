@@ -1,6 +1,6 @@
 -- `port::gifts::allocate` meets its contract.
 -- Assumes nothing.
-use Rattle.bridge.specs.Sequences.{is-allocate}
+use Rattle.card.specs.Kinds.{is-allocate}
 use Rattle.port.proofs.PostLaws.{gift-posts}
 use borrow.Author.Needs.{needs}
 use Rattle.port.proofs.gifts.allocate.Statement.{statement}

@@ -1,6 +1,6 @@
 -- `port::gifts::new_entry` meets its contract.
 -- Assumes nothing.
-use Rattle.bridge.specs.Sequences.{is-new}
+use Rattle.card.specs.Kinds.{is-new}
 use Rattle.port.proofs.PostLaws.{gift-posts}
 use borrow.Author.Needs.{needs}
 use Rattle.port.proofs.gifts.new_entry.Statement.{statement}

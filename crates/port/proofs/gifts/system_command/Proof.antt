@@ -1,6 +1,6 @@
 -- `port::gifts::system_command` meets its contract.
 -- Assumes nothing.
-use Rattle.bridge.specs.Sequences.{is-command}
+use Rattle.card.specs.Kinds.{is-command}
 use Rattle.port.specs.Posts.{lentAfter}
 use Rattle.port.proofs.PostLaws.{gift-posts}
 use borrow.Author.Needs.{needs}

@@ -1,0 +1,2 @@
+-- The refusal of an install, by the roll of the applets present.
+pub mod Refuses

@@ -1,2 +1,0 @@
--- One applet of the table changed.
-pub mod Changes

@@ -1,2 +1,0 @@
--- How entries made are counted.
-pub mod Counts

@@ -1,0 +1,3 @@
+-- Whom an arrival is for, as a set; the answer, and the desk after a profile.
+pub mod Whom
+pub mod Answers

@@ -1,0 +1,99 @@
+-- What ask event answers.
+-- Assumes nothing.
+use Prim.Native.Nat.{ℕ, zero, suc}
+use native.Mathlib.Omega.{arith}
+use mathlib.Core.Path.{_≡_, refl, sym, ap, ap₂, _∙_}
+use mathlib.Core.Bool.{Bool, true, false}
+use mathlib.Core.List.{[]}
+use lib.IntN.{ℤ}
+use lib.ListN.{getD}
+use borrow.Author.Tests.{ne-eqb}
+use Rattle.lists.specs.Tests.{if_then_else_, _==_}
+use Rattle.lists.proofs.Times.{if-same}
+use Rattle.sets.specs.Sets.{has?}
+use Rattle.sets.proofs.Bits.{has-set}
+use Rattle.rules.specs.declared.Kind.{Kind}
+use Rattle.rules.specs.declared.Kind.the-variants.{Event}
+use Rattle.rules.specs.declared.Told.{Told}
+use Rattle.rules.specs.declared.Told.the-variants.{Yes, No, Refused}
+use Rattle.rules.specs.Holds.{Bounds, Tables, Desk, Model}
+use Rattle.rules.specs.Events.{kindOf, callControl}
+use Rattle.rules.specs.Applets.{present, applet, registered, isRegistered}
+use Rattle.rules.specs.Calls.{event, askEvent, saying}
+use Rattle.rules.specs.Desk.{marked}
+use Rattle.rules.specs.Refusals.{lines, absent, eventLines, refusal}
+use Rattle.rules.specs.Step.{step, outcome, tablesAfter, eventTables, deskAfter, answer, eventAnswer}
+use Rattle.rules.proofs.DueMarks.{marked-same}
+use Rattle.events.specs.Place.{placeOf}
+use Rattle.events.proofs.Places.{place-within}
+use Rattle.runs.proofs.Looked.{has-its-number, number-from, number-to}
+use Rattle.applets.specs.ByNumber.{at, registeredSet}
+use Rattle.refusals.proofs.Calls.{eventRefusal, event-known}
+use Rattle.card.specs.declared.Card.{Card}
+use Rattle.card.specs.declared.Asked.{Asked}
+use Rattle.card.specs.View.{view, stored, Left}
+use Rattle.card.specs.Reply.{askedBy, toldOf}
+use Rattle.card.specs.Turns.{isListed}
+use Rattle.card.proofs.Left.{left-form, left-sound, left-bounds}
+use Rattle.card.proofs.Reply.{asks, after-by, control-form}
+use Rattle.card.proofs.Present.{present-by}
+use Rattle.card.proofs.Listeners.{set-is}
+
+module _
+    (c : Card) (left : Left c) (n : ℕ) (v : ℤ) {k : Kind} (kind : k ≡ kindOf v)
+    {there : Bool} (found : there ≡ has? (c .roll .present) n)
+    {r : ℕ} (refused : r ≡ eventRefusal there k [])
+    {p : ℕ} (at-place : p ≡ placeOf k)
+    {says : Bool} (listed : says ≡ isListed p (getD (c .registered) p 0) (c .control) n)
+  where
+    abbrev m : Model
+    m = view c
+
+    abbrev t : Tables
+    t = m .tables
+
+    refusal-is : r ≡ refusal m (event (askEvent n v))
+    unfolding refusal lines eventLines absent
+    refusal-is = refused ∙ rw (found ∙ present-by c left n, kind) refl
+
+    -- the applet's registration is in the set of the event's place
+    registered-is : present t n ≡ true → says ≡ registered t p (applet t n)
+    unfolding registered applet registeredSet
+    registered-is here =
+        let sound = left-sound c left .tables in
+        let eight : t .bounds .applets ≡ 8 = ap (λ (b : Bounds). b .applets) (left-bounds c left) in
+        listed
+        ∙ ap₂ (λ (x y : Bool). if p == callControl then x else y)
+        (ap₂ (λ (o a : ℕ). o == a) (control-form c left) (sym (has-its-number t n here)))
+        (ap (λ (s : ℕ). has? s n) (set-is c left p (place-within v kind at-place)) ∙ has-set (λ k. getD (at (t .applets) k .events) p false) n (number-from t sound n here) (omega (arith, number-to t sound n here)))
+
+    accepted : r ≡ 0 → answer m (event (askEvent n v)) ≡ saying says
+    unfolding answer eventAnswer isRegistered
+    accepted z =
+        let known = event-known there k [] (sym refused ∙ z) in
+        let is : kindOf v ≡ Event p = sym kind ∙ known .1 ∙ ap Event (sym at-place) in
+        let here : present t n ≡ true = sym (found ∙ present-by c left n) ∙ known .0 in
+        ap saying (ap (isRegistered t n) is ∙ sym (registered-is here))
+
+    told : (if r == 0 then (if says then Yes else No) else Refused r) ≡ toldOf (step m (event (askEvent n v)) .answer)
+    unfolding step toldOf
+    told = go r refl ∙ ap (λ (k : ℕ). toldOf (outcome k m (event (askEvent n v)) .answer)) refusal-is
+      where
+        go : (j : ℕ) → r ≡ j → (if j == 0 then (if says then Yes else No) else Refused j) ≡ toldOf (outcome j m (event (askEvent n v)) .answer)
+        go zero z = unfold outcome in ap toldOf (sym (accepted z))
+        go (suc j) z = unfold outcome in rw (ne-eqb (suc j) 0 (λ w. omega arith)) refl
+
+    still : deskAfter m (event (askEvent n v)) ≡ m .desk
+    unfolding deskAfter
+    still = refl
+
+    stays : c ≡ stored (step m (event (askEvent n v)) .after)
+    unfolding tablesAfter eventTables
+    stays =
+        left-form c left
+        ∙ ap stored (sym (after-by m (event (askEvent n v)) refusal-is still
+        ∙ ap (λ (u : Tables). record { tables = u; desk = marked t u (m .desk) }) (if-same (r == 0) t)
+        ∙ ap (λ (d : Desk). record { tables = t; desk = d }) (marked-same t (m .desk))))
+
+    pub asks-event : {a : Told} → a ≡ (if r == 0 then (if says then Yes else No) else Refused r) → _≡_ {A = Asked} (record { card = c; answer = a }) (askedBy (step m (event (askEvent n v))))
+    asks-event e = asks (step m (event (askEvent n v))) stays (e ∙ told)

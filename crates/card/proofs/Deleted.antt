@@ -1,0 +1,191 @@
+-- What a delete leaves of the card.
+-- Assumes nothing.
+use Prim.Native.Nat.{ℕ, _-_, _≤_, _<_}
+use native.Mathlib.Omega.{arith}
+use mathlib.Core.Path.{_≡_, refl, sym, ap, ap₂, _∙_}
+use mathlib.Core.Bool.{Bool, true, false, not, Bool·beq, _&&_, _||_}
+use mathlib.Core.List.{List, map}
+use lib.ListN.{getD, set}
+use Rattle.lists.specs.Tests.{if_then_else_}
+use Rattle.lists.specs.Lists.{Every}
+use Rattle.lists.specs.Tables.{table}
+use Rattle.lists.proofs.Every.{every-so}
+use Rattle.sets.specs.Sets.{has?, single, meets, setWithout, turnedSet}
+use Rattle.sets.proofs.LeftOut.{turned-without, meets-without}
+use Rattle.rules.specs.declared.Roll.{Roll}
+use Rattle.rules.specs.declared.Rows.{Rows}
+use Rattle.rules.specs.declared.Bank.{Bank}
+use Rattle.rules.specs.declared.Done.{Done}
+use Rattle.rules.specs.Holds.{Applet, Bounds, Tables, Desk, Model, document}
+use Rattle.rules.specs.Held.{viewRows, storedRows}
+use Rattle.rules.specs.Applets.{present, applet, forget}
+use Rattle.rules.specs.Rows.{withoutRows}
+use Rattle.rules.specs.Timers.{withoutTimers}
+use Rattle.rules.specs.Calls.{admin, delete, only}
+use Rattle.rules.specs.Desk.{menuChanges, eventsChange, marked}
+use Rattle.rules.specs.Refusals.{lines, lowest, absent, adminLines, refusal}
+use Rattle.rules.specs.Step.{step, tablesAfter, adminTables, deskAfter, answer}
+use Rattle.rules.proofs.DueMarks.{marked-same}
+use Rattle.runs.specs.Sound.{SoundApplet, SoundTables}
+use Rattle.runs.proofs.Altered.{admin-sound}
+use Rattle.applets.specs.ByNumber.{rollOf, selectableSet, registeredSet, madeTable, madeWith}
+use Rattle.applets.proofs.Made.{made-set}
+use Rattle.applets.specs.Rolls.{rollWithout}
+use Rattle.lists.proofs.Tables.{table-length}
+use Rattle.applets.proofs.Removed.{registered-less, all-less, selectable-less, made-less, roll-less}
+use Rattle.screen.specs.Asked.{hasEnabledRow}
+use Rattle.screen.proofs.MenuByApplets.{delete-menu}
+use Rattle.downloads.specs.Turns.{anyCode, codeTurns}
+use Rattle.card.specs.declared.Card.{Card}
+use Rattle.card.specs.declared.Changed.{Changed}
+use Rattle.card.specs.View.{view, stored, Left}
+use Rattle.card.specs.Reply.{changedBy, doneOf}
+use Rattle.card.proofs.Left.{left-form, left-sound, left-bounds}
+use Rattle.card.proofs.Marks.{withDue, due-desk}
+use Rattle.card.proofs.Reply.{changes, tablesBy, after-by, answer-by, card-is, roll-form, selectable-form, registered-form, made-form, desk-form}
+use Rattle.card.proofs.Present.{present-by, low-is, high-is, selectable-has}
+use Rattle.card.proofs.Listeners.{set-is, codes-by}
+
+module _ (c : Card) (left : Left c) (n : ℕ) (there : has? (c .roll .present) n ≡ true) where
+  abbrev m : Model
+  m = view c
+
+  abbrev t : Tables
+  t = m .tables
+
+  abbrev u : Tables
+  u = adminTables t (delete n)
+
+  abbrev is : ℕ
+  is = turnedSet (c .selectable) n false
+
+  here : present t n ≡ true
+  here = sym (present-by c left n) ∙ there
+
+  sound : SoundTables t
+  sound = left-sound c left .tables
+
+  in-range : Every (λ (x : Applet). (1 ≤ x .number) × (x .number ≤ 8)) (t .applets)
+  in-range =
+      let eight : t .bounds .applets ≡ 8 = ap (λ (b : Bounds). b .applets) (left-bounds c left) in
+      every-so (SoundApplet (t .bounds)) _ (λ x s. (s .number-from, omega (arith, s .number-to, eight))) (t .applets) (sound .each-applet)
+
+  none-refused : refusal m (admin (delete n)) ≡ 0
+  unfolding refusal lines adminLines lowest absent
+  none-refused = rw here refl
+
+  bounds-same : u .bounds ≡ document
+  unfolding adminTables
+  bounds-same = left-bounds c left
+
+  -- the sets and tables of those who stay
+  roll-next : rollWithout (c .roll) n ≡ rollOf (u .applets)
+  unfolding adminTables
+  roll-next = ap (λ (r : Roll). rollWithout r n) (roll-form c left) ∙ roll-less (t .applets) n (low-is c left n there) in-range
+
+  selectable-next : is ≡ selectableSet (u .applets)
+  unfolding adminTables
+  selectable-next = ap (λ (s : ℕ). turnedSet s n false) (selectable-form c left) ∙ selectable-less (t .applets) n
+
+  registered-next : map (λ (s : ℕ). setWithout s (single n)) (c .registered) ≡ table 20 (registeredSet (u .applets))
+  unfolding adminTables
+  registered-next = ap (map (λ (s : ℕ). setWithout s (single n))) (registered-form c left) ∙ all-less (t .applets) n
+
+  made-next : madeWith (c .made) n 0 ≡ madeTable (u .applets)
+  unfolding madeTable adminTables
+  made-next =
+      let low = low-is c left n there in
+      ap (λ (k : List ℕ). madeWith k n 0) (made-form c left)
+      ∙ sym (made-set (madeTable (t .applets)) (table-length 8 _) n 0 (λ z. omega (arith, low, z)))
+      ∙ made-less (t .applets) n low
+
+  -- the marks
+  menu-differs : (true && (not (Bool·beq (has? (c .selectable) n) false) && hasEnabledRow n (viewRows (c .rows)))) ≡ menuChanges t u
+  unfolding view applet
+  menu-differs =
+      ap (λ (b : Bool). b && hasEnabledRow n (t .rows)) (same (has? (c .selectable) n) ∙ selectable-has c left n (low-is c left n there) (high-is c left n there))
+      ∙ sym (delete-menu t (sound .numbers-apart) n)
+    where
+      same : (s : Bool) → not (Bool·beq s false) ≡ s
+      same true = refl
+      same false = refl
+
+  events-differ : anyCode (codeTurns (c .registered) (c .selectable) is) ≡ eventsChange t u
+  events-differ = codes-by c left u (admin-sound m (delete n) none-refused sound) bounds-same is after
+    where
+      own : (e : ℕ) → setWithout (registeredSet (t .applets) e) (single n) ≡ registeredSet (u .applets) e
+      own e = unfold adminTables in registered-less (t .applets) n e
+
+      after : (e : ℕ) → e < 18 → meets (registeredSet (u .applets) e) (selectableSet (u .applets)) ≡ meets (getD (c .registered) e 0) is
+      after e h =
+          ap₂ meets (sym (own e)) (sym selectable-next ∙ turned-without (c .selectable) n)
+          ∙ meets-without (registeredSet (t .applets) e) (c .selectable) (single n)
+          ∙ ap₂ meets (sym (set-is c left e (omega arith))) (sym (turned-without (c .selectable) n))
+
+  pub removes
+      : {s control : ℕ} {g f : List ℕ} {menu events x y : Bool} {roll : Roll} {rows : Rows} {bank : Bank}
+      → s ≡ is
+      → menu ≡ (true && (not (Bool·beq (has? (c .selectable) n) false) && hasEnabledRow n (viewRows (c .rows))))
+      → events ≡ anyCode (codeTurns (c .registered) (c .selectable) s)
+      → x ≡ (c .desk .session && menu || c .desk .due .menu)
+      → y ≡ (c .desk .session && events || c .desk .due .events)
+      → roll ≡ rollWithout (c .roll) n
+      → g ≡ map (λ (s : ℕ). setWithout s (single n)) (c .registered)
+      → f ≡ madeWith (c .made) n 0
+      → bank .owner ≡ withoutTimers n (c .bank .owner)
+      → control ≡ forget n (c .control)
+      → rows ≡ storedRows (withoutRows n (viewRows (c .rows)))
+      → _≡_ {A = Card}
+      (record { roll = roll; selectable = s; registered = g; made = f; control = control; rows = rows; bank = bank; desk = withDue (c .desk) x y })
+      (stored (record { tables = u; desk = marked t u (m .desk) }))
+  removes ss mv ev mx my rl rg md bk ct rs =
+      card-is (record { tables = u; desk = marked t u (m .desk) })
+      (rl ∙ roll-next) (ss ∙ selectable-next) (rg ∙ registered-next) (md ∙ made-next)
+      (ct ∙ control-next) (rs ∙ rows-next) (bk ∙ timers-next)
+      (due-desk t u (m .desk) (desk-form c left) (mv ∙ menu-differs) (ev ∙ ap (λ (k : ℕ). anyCode (codeTurns (c .registered) (c .selectable) k)) ss ∙ events-differ) mx my)
+    where
+      control-next : forget n (c .control) ≡ u .control
+      control-next = unfold adminTables view in refl
+
+      rows-next : storedRows (withoutRows n (viewRows (c .rows))) ≡ storedRows (u .rows)
+      rows-next = unfold adminTables view in refl
+
+      timers-next : withoutTimers n (c .bank .owner) ≡ u .timers
+      timers-next = unfold adminTables view in refl
+
+-- DELETE, by what the parts of the code say
+module _ (c : Card) (left : Left c) (n : ℕ) {there : Bool} (found : there ≡ has? (c .roll .present) n) {r : ℕ} (refused : r ≡ (if not there then 2 else 0)) where
+  refusal-is : r ≡ refusal (view c) (admin (delete n))
+  unfolding refusal lines adminLines lowest absent
+  refusal-is = refused ∙ ap (λ (b : Bool). if not b then 2 else 0) (found ∙ present-by c left n)
+
+  still : deskAfter (view c) (admin (delete n)) ≡ view c .desk
+  unfolding deskAfter
+  still = refl
+
+  plain : answer (view c) (admin (delete n)) ≡ only 0
+  unfolding answer
+  plain = refl
+
+  abbrev Says : Card → Done → Type 0
+  Says k a = _≡_ {A = Changed} (record { card = k; answer = a }) (changedBy (step (view c) (admin (delete n))))
+
+  leaves : {k : Card} {a : Done} (u : Tables) → u ≡ tablesBy (view c) (admin (delete n)) r
+      → k ≡ stored (record { tables = u; desk = marked (view c .tables) u (view c .desk) }) → a ≡ doneOf (only r) → Says k a
+  leaves u h q e =
+      changes (step (view c) (admin (delete n)))
+      (q ∙ ap (λ (w : Tables). stored (record { tables = w; desk = marked (view c .tables) w (view c .desk) })) h ∙ ap stored (sym (after-by (view c) (admin (delete n)) refusal-is still)))
+      (e ∙ ap doneOf (sym (answer-by (view c) (admin (delete n)) refusal-is plain)))
+
+  pub deletes : {k : Card} {a : Done} → there ≡ true
+      → k ≡ stored (record { tables = adminTables (view c .tables) (delete n); desk = marked (view c .tables) (adminTables (view c .tables) (delete n)) (view c .desk) })
+      → a ≡ doneOf (only r) → Says k a
+  unfolding tablesAfter
+  deletes h q e =
+      let z : r ≡ 0 = refused ∙ rw h refl in
+      leaves (adminTables (view c .tables) (delete n)) (rw z refl) q e
+
+  pub deletes-none : {k : Card} {a : Done} → there ≡ false → k ≡ c → a ≡ doneOf (only r) → Says k a
+  deletes-none h q e =
+      let z : r ≡ 2 = refused ∙ rw h refl in
+      leaves (view c .tables) (rw z refl) (q ∙ left-form c left ∙ ap (λ (d : Desk). stored (record { tables = view c .tables; desk = d })) (sym (marked-same (view c .tables) (view c .desk)))) e

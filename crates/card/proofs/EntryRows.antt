@@ -1,0 +1,249 @@
+-- What a call about entries leaves of the card, and change, enable and disable entry by what the parts of the code say.
+-- Assumes nothing.
+use Prim.Native.Nat.{ℕ, zero, suc}
+use native.Mathlib.Omega.{arith}
+use mathlib.Core.Path.{_≡_, refl, sym, ap, ap₂, _∙_}
+use mathlib.Core.Bool.{Bool, true, false, not, _&&_, _||_}
+use mathlib.Core.List.{List, [], _∷_}
+use lib.ListN.{take}
+use lib.Seq.{take-all}
+use borrow.Author.Tests.{eqb-true}
+use Rattle.lists.specs.Tests.{_==_}
+use Rattle.lists.specs.Lists.{some?, first}
+use Rattle.lists.proofs.Decided.{both, clashing}
+use Rattle.lists.proofs.Every.{every-first}
+use Rattle.lists.proofs.Firsts.{first-passes}
+use Rattle.lists.proofs.Tables.{table-alike}
+use Rattle.lists.proofs.Truth.{and-false}
+use Rattle.sets.specs.Sets.{has?}
+use Rattle.rules.specs.declared.Done.{Done}
+use Rattle.rules.specs.declared.Grant.{Grant}
+use Rattle.rules.specs.declared.Rows.{Rows}
+use Rattle.rules.specs.Holds.{Row, Bounds, Tables, withRows}
+use Rattle.rules.specs.Held.{noRow, viewRows, storedRows}
+use Rattle.rules.specs.Applets.{nobody, present, applet}
+use Rattle.rules.specs.Rows.{withText, withEnabled}
+use Rattle.rules.specs.Desk.{menuChanges, eventsChange, marked}
+use Rattle.rules.specs.Calls.{EntryCall, entry, changeEntry, only}
+use Rattle.rules.specs.Refusals.{line, lowest, refusal}
+use Rattle.rules.specs.Step.{step, outcome, changed, tablesAfter, deskAfter, entryTables, answer, entryAnswer}
+use Rattle.runs.specs.Sound.{SoundRow, SoundTables}
+use Rattle.runs.proofs.Looked.{sound-applet, number-from, number-to}
+use Rattle.runs.proofs.Filled.{ChangesEntry, changes-entry}
+use Rattle.applets.specs.ByNumber.{byNumber, grantOf, rollOf, selectableSet, registeredSet, madeTable}
+use Rattle.screen.proofs.RowTurns.{enabled-shows, text-shows}
+use Rattle.rows.specs.declared.Turned.{Turned}
+use Rattle.rows.specs.ItsRow.{itsRow, markedBy, rewordedBy}
+use Rattle.rows.proofs.Its.{its-known, its-marked, its-reworded, none-marked, none-reworded, kept-reworded, marked-says, reworded-says}
+use Rattle.downloads.proofs.Quiet.{rows-events}
+use Rattle.refusals.specs.Lines.{unfitText}
+use Rattle.refusals.proofs.Calls.{turning, turn-refusal, change-refusal}
+use Rattle.card.specs.declared.Card.{Card}
+use Rattle.card.specs.declared.Changed.{Changed}
+use Rattle.card.specs.View.{view, stored, Left}
+use Rattle.card.specs.Reply.{changedBy, doneOf}
+use Rattle.card.proofs.Left.{left-form, left-sound, left-bounds}
+use Rattle.card.proofs.Marks.{withDue, due-desk, unmarked}
+use Rattle.card.proofs.Reply.{changes, answer-by, card-is, roll-form, selectable-form, registered-form, made-form, control-form, rows-form, bank-form, desk-form}
+use Rattle.card.proofs.Present.{present-by, grant-is, selectable-has}
+
+-- what an accepted call about entries leaves, and that a refused one leaves the card
+module _ (c : Card) (left : Left c) (y : EntryCall) {r : ℕ} (e : r ≡ refusal (view c) (entry y)) where
+  pub entry-after : r ≡ 0 → step (view c) (entry y) .after ≡ record { tables = entryTables (view c .tables) y; desk = marked (view c .tables) (entryTables (view c .tables) y) (view c .desk) }
+  unfolding step outcome changed tablesAfter deskAfter
+  entry-after z = ap (λ (k : ℕ). outcome k (view c) (entry y) .after) (sym e ∙ z)
+
+  pub entry-refused : (r ≡ 0 → ⊥) → c ≡ stored (step (view c) (entry y) .after)
+  unfolding step outcome
+  entry-refused z = left-form c left ∙ go r z ∙ ap (λ (k : ℕ). stored (outcome k (view c) (entry y) .after)) e
+    where
+      go : (k : ℕ) → (k ≡ 0 → ⊥) → stored (view c) ≡ stored (outcome k (view c) (entry y) .after)
+      go zero z = absurd (z refl)
+      go (suc k) z = refl
+
+-- THE CARD AFTER A CALL ABOUT ENTRIES: the rows, how many entries are made, and whether the menu is due
+abbrev pub withEntries : Card → (made : List ℕ) → Rows → (due : Bool) → Card
+withEntries c made rows due =
+    record { roll = c .roll; selectable = c .selectable; registered = c .registered; made = made; control = c .control; rows = rows; bank = c .bank; desk = withDue (c .desk) due (c .desk .due .events) }
+
+module _ (c : Card) (left : Left c) (u : Tables) where
+  abbrev t : Tables
+  t = view c .tables
+
+  pub entry-card
+      : rollOf (u .applets) ≡ rollOf (t .applets)
+      → selectableSet (u .applets) ≡ selectableSet (t .applets)
+      → ((e : ℕ) → registeredSet (u .applets) e ≡ registeredSet (t .applets) e)
+      → u .control ≡ t .control
+      → u .timers ≡ t .timers
+      → eventsChange t u ≡ false
+      → {made : List ℕ} {next : Rows} {menu x : Bool}
+      → made ≡ madeTable (u .applets)
+      → next ≡ storedRows (u .rows)
+      → menu ≡ menuChanges t u
+      → x ≡ (c .desk .session && menu || c .desk .due .menu)
+      → withEntries c made next x ≡ stored (record { tables = u; desk = marked t u (view c .desk) })
+  entry-card roll sel reg own timers quiet many rows turns x =
+      card-is (record { tables = u; desk = marked t u (view c .desk) })
+      (roll-form c left ∙ sym roll) (selectable-form c left ∙ sym sel) (registered-form c left ∙ table-alike 20 _ _ (λ e h. sym (reg e))) many
+      (control-form c left ∙ sym own) rows (bank-form c left ∙ sym timers)
+      (due-desk t u (view c .desk) (desk-form c left) turns (sym quiet) x (unmarked (c .desk .session) (c .desk .due .events)))
+
+-- whether an applet that is there is selectable
+pub selectable-there : (c : Card) (left : Left c) (n : ℕ) → present (view c .tables) n ≡ true → has? (c .selectable) n ≡ applet (view c .tables) n .selectable
+unfolding applet
+selectable-there c left n there =
+    let sound = left-sound c left .tables in
+    let eight : view c .tables .bounds .applets ≡ 8 = ap (λ (b : Bounds). b .applets) (left-bounds c left) in
+    selectable-has c left n (number-from (view c .tables) sound n there) (omega (arith, number-to (view c .tables) sound n there, eight))
+
+-- the owner of a row is there
+owner-there : (t : Tables) → SoundTables t → (n i : ℕ) → some? (itsRow n i) (t .rows) ≡ true → present t n ≡ true
+owner-there t s n i its =
+    let x = first (itsRow n i) noRow (t .rows) in
+    let own : x .owner ≡ n = eqb-true (x .owner) n (both (x .identifier == i) (x .owner == n) (first-passes (itsRow n i) noRow (t .rows) its) .1) in
+    sym (ap (present t) own) ∙ every-first (SoundRow t) (itsRow n i) noRow (t .rows) its (s .each-row) .owner
+
+-- A CALL THAT CHANGES ROWS ONLY, by what became of the rows
+module _ (c : Card) (left : Left c) (n : ℕ) (y : EntryCall) {r : ℕ} (e : r ≡ refusal (view c) (entry y)) (plain : entryAnswer (view c .tables) y ≡ only 0) {a : Done} (says : a ≡ doneOf (only r))
+    {shown x : Bool} (sh : shown ≡ has? (c .selectable) n) (w : Turned) (due : x ≡ (c .desk .session && (shown && w .turns) || c .desk .due .menu))
+  where
+    replied : {k : Card} → k ≡ stored (step (view c) (entry y) .after) → _≡_ {A = Changed} (record { card = k; answer = a }) (changedBy (step (view c) (entry y)))
+    unfolding answer
+    replied is = changes (step (view c) (entry y)) is (says ∙ ap doneOf (sym (answer-by (view c) (entry y) e plain)))
+
+    rows-kept : (r ≡ 0 → ⊥) → w .rows ≡ storedRows (view c .tables .rows) → w .turns ≡ false → _≡_ {A = Changed} (record { card = withEntries c (c .made) (w .rows) x; answer = a }) (changedBy (step (view c) (entry y)))
+    rows-kept z nx still =
+        let off : c .desk .due .menu ≡ x = unmarked (c .desk .session) (c .desk .due .menu) ∙ sym (due ∙ ap (λ (b : Bool). c .desk .session && b || c .desk .due .menu) (ap (λ (b : Bool). shown && b) still ∙ and-false shown)) in
+        replied (ap₂ (λ (k : Rows) (b : Bool). withEntries c (c .made) k b) (nx ∙ sym (rows-form c left)) (sym off) ∙ entry-refused c left y e z)
+
+    rows-changed
+        : r ≡ 0
+        → (rows : List Row)
+        → present (view c .tables) n ≡ true
+        → entryTables (view c .tables) y ≡ withRows (view c .tables) rows
+        → menuChanges (view c .tables) (withRows (view c .tables) rows) ≡ (applet (view c .tables) n .selectable && w .turns)
+        → w .rows ≡ storedRows rows
+        → _≡_ {A = Changed} (record { card = withEntries c (c .made) (w .rows) x; answer = a }) (changedBy (step (view c) (entry y)))
+    rows-changed z rows here ts shows nx =
+        let t = view c .tables in
+        replied
+        (entry-card c left (withRows t rows) refl refl (λ e. refl) refl refl (rows-events t rows) (made-form c left) nx
+        (ap (λ (b : Bool). b && w .turns) (sh ∙ selectable-there c left n here) ∙ sym shows) due
+        ∙ ap (λ (s : Tables). stored (record { tables = s; desk = marked t s (view c .desk) })) (sym ts)
+        ∙ ap stored (sym (entry-after c left y e z)))
+
+-- what acceptance says
+two-lines : (there its : Bool) → lowest (line 2 (not there) ∷ line 11 (not its) ∷ []) ≡ 0 → its ≡ true
+unfolding lowest
+two-lines true true h = refl
+two-lines true false h = absurd (omega arith)
+two-lines false its h = absurd (omega arith)
+
+three-lines : (there its fits : Bool) → lowest (line 2 (not there) ∷ line 11 (not its) ∷ line 12 (not fits) ∷ []) ≡ 0 → (its ≡ true) × (fits ≡ true)
+unfolding lowest
+three-lines true true true h = (refl, refl)
+three-lines true true false h = absurd (omega arith)
+three-lines true false fits h = absurd (omega arith)
+three-lines false its fits h = absurd (omega arith)
+
+-- ENABLE AND DISABLE
+turn-tables : (t : Tables) (n i : ℕ) (on : Bool) → entryTables t (turning on n i) ≡ withRows t (withEnabled i on (t .rows))
+unfolding entryTables
+turn-tables t n i true = refl
+turn-tables t n i false = refl
+
+turn-answer : (t : Tables) (n i : ℕ) (on : Bool) → entryAnswer t (turning on n i) ≡ only 0
+unfolding entryAnswer
+turn-answer t n i true = refl
+turn-answer t n i false = refl
+
+module _ (c : Card) (left : Left c) (n i : ℕ) (on : Bool) {there : Bool} (found : there ≡ has? (c .roll .present) n)
+    {shown x : Bool} (sh : shown ≡ has? (c .selectable) n) {w : Turned} (is : w ≡ markedBy n i on (viewRows (c .rows)))
+    (due : x ≡ (c .desk .session && (shown && w .turns) || c .desk .due .menu))
+    {r : ℕ} (e : r ≡ lowest (line 2 (not there) ∷ line 11 (not (w .its)) ∷ [])) {a : Done} (says : a ≡ doneOf (only r))
+  where
+    its-is : w .its ≡ some? (itsRow n i) (view c .tables .rows)
+    unfolding view
+    its-is = ap (λ (k : Turned). k .its) is ∙ marked-says (view c .tables .rows) n i on
+
+    is-turned : r ≡ refusal (view c) (entry (turning on n i))
+    is-turned = turn-refusal (view c) n (found ∙ present-by c left n) i on (its-is ∙ its-known (view c .tables .rows) n i) e
+
+    pub turns-entry : _≡_ {A = Changed} (record { card = withEntries c (c .made) (w .rows) x; answer = a }) (changedBy (step (view c) (entry (turning on n i))))
+    unfolding view
+    turns-entry = go (some? (itsRow n i) (view c .tables .rows)) refl
+      where
+        go : (b : Bool) → some? (itsRow n i) (view c .tables .rows) ≡ b → _≡_ {A = Changed} (record { card = withEntries c (c .made) (w .rows) x; answer = a }) (changedBy (step (view c) (entry (turning on n i))))
+        go true q =
+            let t = view c .tables in
+            let s = left-sound c left .tables in
+            let here = owner-there t s n i q in
+            let so = is ∙ its-marked (t .rows) n i (s .identifiers-apart) q on in
+            rows-changed c left n (turning on n i) is-turned (turn-answer t n i on) says sh w due
+            (e ∙ rw (found ∙ present-by c left n ∙ here, its-is ∙ q) (unfold lowest in refl))
+            (withEnabled i on (t .rows)) here (turn-tables t n i on)
+            (enabled-shows t s n i q on ∙ ap (λ (b : Bool). applet t n .selectable && b) (sym (ap (λ (k : Turned). k .turns) so)))
+            (ap (λ (k : Turned). k .rows) so)
+        go false q =
+            let t = view c .tables in
+            let so = is ∙ none-marked (t .rows) n i q on in
+            rows-kept c left n (turning on n i) is-turned (turn-answer t n i on) says sh w due
+            (λ z. clashing (two-lines there (w .its) (sym e ∙ z)) (its-is ∙ q))
+            (ap (λ (k : Turned). k .rows) so) (ap (λ (k : Turned). k .turns) so)
+
+-- CHANGE
+module _ (c : Card) (left : Left c) (n i : ℕ) (help : Bool) (text : List ℕ) {there : Bool} (found : there ≡ has? (c .roll .present) n)
+    {shown x : Bool} (sh : shown ≡ has? (c .selectable) n) {g : Grant} (granted : g ≡ byNumber (grantOf nobody) (c .roll .grants) n)
+    {fits : Bool} (fit : fits ≡ not (unfitText (g .text) text)) {w : Turned} (is : w ≡ rewordedBy n i fits help text (viewRows (c .rows)))
+    (due : x ≡ (c .desk .session && (shown && w .turns) || c .desk .due .menu))
+    {r : ℕ} (e : r ≡ lowest (line 2 (not there) ∷ line 11 (not (w .its)) ∷ line 12 (not fits) ∷ [])) {a : Done} (says : a ≡ doneOf (only r))
+  where
+    row-is : w .its ≡ some? (itsRow n i) (view c .tables .rows)
+    unfolding view
+    row-is = ap (λ (k : Turned). k .its) is ∙ reworded-says (view c .tables .rows) n i fits help text
+
+    limit-is : g .text ≡ applet (view c .tables) n .limits .text
+    unfolding grantOf
+    limit-is = ap (λ (k : Grant). k .text) (granted ∙ grant-is c left n)
+
+    is-changed : r ≡ refusal (view c) (entry (changeEntry n i help text))
+    is-changed = change-refusal (view c) n (found ∙ present-by c left n) i help text (row-is ∙ its-known (view c .tables .rows) n i) limit-is fit e
+
+    abbrev Reply : Type 0
+    Reply = _≡_ {A = Changed} (record { card = withEntries c (c .made) (w .rows) x; answer = a }) (changedBy (step (view c) (entry (changeEntry n i help text))))
+
+    kept : (r ≡ 0 → ⊥) → w .rows ≡ storedRows (view c .tables .rows) → w .turns ≡ false → Reply
+    unfolding entryAnswer
+    kept z nx still = rows-kept c left n (changeEntry n i help text) is-changed refl says sh w due z nx still
+
+    made-so : r ≡ 0 → some? (itsRow n i) (view c .tables .rows) ≡ true → w ≡ rewordedBy n i true help text (view c .tables .rows) → Reply
+    unfolding entryAnswer entryTables
+    made-so z q worded =
+        let t = view c .tables in
+        let s = left-sound c left .tables in
+        let does : ChangesEntry t n i text = changes-entry (view c) n i help text (sym is-changed ∙ z) in
+        let whole : take 15 text ≡ text = take-all 15 text (omega (arith, does .fits .to, sound-applet t s n (does .here) .text, ap (λ (b : Bounds). b .text) (left-bounds c left))) in
+        let so = worded ∙ its-reworded (t .rows) n i (s .identifiers-apart) q help text in
+        rows-changed c left n (changeEntry n i help text) is-changed refl says sh w due z
+        (withText i help text (t .rows)) (does .here) refl
+        (text-shows t s n i (does .its) help text ∙ ap (λ (b : Bool). applet t n .selectable && b) (sym (ap (λ (k : Turned). k .turns) so)))
+        (ap (λ (k : Turned). k .rows) so ∙ ap (λ (k : List ℕ). storedRows (withText i help k (t .rows))) whole)
+
+    pub changes-words : Reply
+    unfolding view
+    changes-words = go (some? (itsRow n i) (view c .tables .rows)) fits refl refl
+      where
+        l : List Row
+        l = view c .tables .rows
+
+        go : (b f : Bool) → some? (itsRow n i) l ≡ b → fits ≡ f → Reply
+        go true true q p =
+            made-so (e ∙ rw (found ∙ present-by c left n ∙ owner-there (view c .tables) (left-sound c left .tables) n i q, row-is ∙ q, p) (unfold lowest in refl)) q
+            (is ∙ ap (λ (f : Bool). rewordedBy n i f help text l) p)
+        go true false q p =
+            let so = is ∙ ap (λ (f : Bool). rewordedBy n i f help text l) p ∙ kept-reworded l n i help text in
+            kept (λ z. clashing (three-lines there (w .its) fits (sym e ∙ z) .1) p) (ap (λ (k : Turned). k .rows) so) (ap (λ (k : Turned). k .turns) so)
+        go false f q p =
+            let so = is ∙ none-reworded l n i q fits help text in
+            kept (λ z. clashing (three-lines there (w .its) fits (sym e ∙ z) .0) (row-is ∙ q)) (ap (λ (k : Turned). k .rows) so) (ap (λ (k : Turned). k .turns) so)

@@ -1,0 +1,88 @@
+-- A fresh card, by its parts; calls may be made on it.
+-- Assumes nothing.
+use Prim.Native.Nat.{ℕ, zero, suc, _≤_}
+use native.Mathlib.Omega.{arith}
+use mathlib.Core.Path.{_≡_, refl, sym, ap, _∙_}
+use mathlib.Core.Bool.{false}
+use mathlib.Core.List.{List, [], _∷_}
+use lib.ListN.{length, take, replicate}
+use lib.Seq.{take-all}
+use borrow.Author.Tests.{ne-eqb}
+use Rattle.lists.specs.Tests.{if_then_else_, _==_, _<?_}
+use Rattle.lists.specs.Lists.{padded, first}
+use Rattle.lists.specs.Tables.{table}
+use Rattle.sets.specs.Sets.{numbers, valued, setOf}
+use Rattle.rules.specs.declared.Done.{Done}
+use Rattle.rules.specs.declared.Roll.{Roll}
+use Rattle.rules.specs.declared.Rows.{Rows}
+use Rattle.rules.specs.Holds.{document, fresh, nothingDue}
+use Rattle.rules.specs.Held.{storedRows, storedDesk}
+use Rattle.rules.specs.Calls.{only}
+use Rattle.rules.specs.Refusals.{line, lowest}
+use Rattle.rules.specs.Beside.{freshCard, freshBy}
+use Rattle.rules.specs.Runs.{after}
+use Rattle.refusals.proofs.Calls.{title-short}
+use Rattle.applets.specs.ByNumber.{rollOf, selectableSet, registeredSet, madeTable}
+use Rattle.card.specs.declared.Card.{Card}
+use Rattle.card.specs.declared.Changed.{Changed}
+use Rattle.card.specs.View.{stored, Left}
+use Rattle.card.specs.Reply.{doneOf, madeBy}
+use Rattle.card.proofs.Reply.{card-is}
+
+module _ (title : List ℕ) where
+  -- a card with no applet and no row, part by part
+  pub fresh-is
+      : {a : Roll} {r : Rows} {t : List ℕ}
+      → a ≡ rollOf []
+      → r ≡ storedRows []
+      → t ≡ padded 20 0 title
+      → _≡_ {A = Card}
+      (record {
+        roll = a;
+        selectable = 0;
+        registered = replicate 20 0;
+        made = replicate 8 0;
+        control = 0;
+        rows = r;
+        bank = record { owner = replicate 8 0 };
+        desk = record { due = nothingDue; session = false; outstanding = false; «title_len» = length title; title = t; profile = replicate 32 0 };
+      })
+      (stored (fresh document title))
+  unfolding selectableSet registeredSet madeTable setOf valued numbers table first storedDesk
+  fresh-is p q s = card-is (fresh document title) p refl refl refl refl q refl (rw s refl)
+
+  module _ {r n : ℕ} (e : r ≡ lowest (line 12 (20 <? length title) ∷ [])) (kept : n ≡ (if r == 0 then length title else 0)) where
+    -- what is kept of the title: all, or nothing where it is refused
+    by-refusal : (k : ℕ) → r ≡ k → (n ≡ length (take n title)) × (length (take n title) ≤ 20) × (fresh document (take n title) ≡ freshBy k document title .card)
+    unfolding freshBy
+    by-refusal zero h =
+        let all : n ≡ length title = kept ∙ ap (λ (k : ℕ). if k == 0 then length title else 0) h in
+        let same : take n title ≡ title = take-all n title (omega (arith, all)) in
+        rw same (all, title-short (length title) e h, refl)
+    by-refusal (suc k) h =
+        let none : n ≡ 0 = kept ∙ ap (λ (k : ℕ). if k == 0 then length title else 0) h ∙ rw (ne-eqb (suc k) 0 (λ z. omega arith)) refl in
+        rw none (refl, omega arith, refl)
+
+    pub kept-long : n ≡ length (take n title)
+    kept-long = by-refusal r refl .0
+
+    pub kept-short : length (take n title) ≤ 20
+    kept-short = by-refusal r refl .1
+
+    refusal-is : (k : ℕ) → freshBy k document title .refusal ≡ k
+    unfolding freshBy
+    refusal-is zero = refl
+    refusal-is (suc k) = refl
+
+    pub freshens : {k : Card} {a : Done} → k ≡ stored (fresh document (take n title)) → a ≡ doneOf (only r)
+        → _≡_ {A = Changed} (record { card = k; answer = a }) (madeBy (freshCard document title))
+    unfolding freshCard madeBy
+    freshens {k} {a} p q =
+        ap (λ (x : Card). record { card = x; answer = a }) (p ∙ ap stored (by-refusal r refl .2))
+        ∙ ap (λ (x : Done). record { card = stored (freshBy r document title .card); answer = x }) (q ∙ ap (λ (i : ℕ). doneOf (only i)) (sym (refusal-is r)))
+        ∙ ap (λ (i : ℕ). madeBy (freshBy i document title)) e
+
+  -- a fresh card is one that no call was made on
+  pub fresh-left : Left (madeBy (freshCard document title) .card)
+  unfolding madeBy after
+  fresh-left = record { title = title; calls = []; is = refl }

@@ -1,0 +1,196 @@
+-- What an install leaves of the card.
+-- Assumes nothing.
+use Prim.Native.Nat.{ℕ, suc, _≤_, _<_}
+use native.Mathlib.Omega.{arith}
+use mathlib.Core.Path.{_≡_, refl, sym, ap, _∙_}
+use mathlib.Core.Bool.{Bool, true, false}
+use mathlib.Core.List.{List}
+use lib.ListN.{length, getD}
+use borrow.Author.Tests.{eqb-true, ne-eqb}
+use Rattle.lists.specs.Tests.{if_then_else_, _==_}
+use Rattle.lists.specs.Lists.{Every, some?}
+use Rattle.lists.specs.Tables.{table}
+use Rattle.lists.proofs.Counts.{count-within, none-counted}
+use Rattle.lists.proofs.Every.{every-so, every-both}
+use Rattle.lists.proofs.Firsts.{first-missed}
+use Rattle.lists.proofs.Tables.{table-alike}
+use Rattle.lists.proofs.Truth.{and-left}
+use Rattle.sets.specs.Sets.{turnedSet}
+use Rattle.sets.proofs.Bits.{set-alike}
+use Rattle.rules.specs.declared.Done.{Done}
+use Rattle.rules.specs.declared.Grant.{Grant}
+use Rattle.rules.specs.declared.Request.{Request}
+use Rattle.rules.specs.declared.Roll.{Roll}
+use Rattle.rules.specs.Holds.{Applet, Row, Bounds, Tables, Desk, Model}
+use Rattle.rules.specs.Held.{storedDesk}
+use Rattle.rules.specs.Applets.{hasNumber, nobody, present, applet, newcomer}
+use Rattle.rules.specs.Calls.{Call, admin, install, only}
+use Rattle.rules.specs.Desk.{marked}
+use Rattle.rules.specs.Refusals.{lines, refusal}
+use Rattle.rules.specs.Step.{step, tablesAfter, adminTables, deskAfter, answer}
+use Rattle.rules.proofs.DueMarks.{marked-same}
+use Rattle.runs.specs.Sound.{SoundApplet, SoundTables}
+use Rattle.runs.proofs.Looked.{each-found, absent-nobody}
+use Rattle.runs.proofs.Filled.{Installs, installs}
+use Rattle.runs.proofs.Installed.{install-room}
+use Rattle.screen.specs.Asked.{isEnabledOf, hasEnabledRow}
+use Rattle.screen.proofs.MenuByApplets.{install-menu}
+use Rattle.downloads.proofs.Quiet.{install-events}
+use Rattle.applets.specs.ByNumber.{at, grantOf, rollOf, selectableSet, registeredSet, madeTable}
+use Rattle.applets.specs.Rolls.{rollWith}
+use Rattle.applets.proofs.Joined.{at-more, set-more, roll-more}
+use Rattle.admission.specs.Refuses.{RefusesInstall}
+use Rattle.card.specs.declared.Card.{Card}
+use Rattle.card.specs.declared.Changed.{Changed}
+use Rattle.card.specs.View.{view, stored, Left}
+use Rattle.card.specs.Reply.{changedBy, doneOf}
+use Rattle.card.proofs.Left.{left-form, left-sound, left-bounds}
+use Rattle.card.proofs.Marks.{due-desk, unmarked}
+use Rattle.card.proofs.Order.{count-is}
+use Rattle.card.proofs.Reply.{changes, tablesBy, after-by, answer-by, card-is, roll-form, selectable-form, registered-form, made-form, control-form, rows-form, bank-form, desk-form}
+
+module _ (c : Card) (left : Left c) (n : ℕ) (q : Request) where
+  abbrev t : Tables
+  t = view c .tables
+
+  abbrev l : List Applet
+  l = t .applets
+
+  abbrev x : Applet
+  x = newcomer n q
+
+  abbrev u : Tables
+  u = adminTables t (install n q)
+
+  sound : SoundTables t
+  sound = left-sound c left .tables
+
+  eight : t .bounds .applets ≡ 8
+  eight = ap (λ (b : Bounds). b .applets) (left-bounds c left)
+
+  -- each has a number of its own
+  own : Every (λ (y : Applet). (at l (y .number) ≡ y) × (1 ≤ y .number) × (y .number ≤ 8)) l
+  own = every-so _ _ one l (every-both _ _ l (each-found t sound) (sound .each-applet))
+    where
+      one : (y : Applet) → (applet t (y .number) ≡ y) × SoundApplet (t .bounds) y → (at l (y .number) ≡ y) × (1 ≤ y .number) × (y .number ≤ 8)
+      one y (found, s) = (unfold applet in found, s .number-from, omega (arith, s .number-to, eight))
+
+  -- where it is accepted
+  module _ (accepted : refusal (view c) (admin (install n q)) ≡ 0) where
+    allowed : Installs t n q
+    allowed = installs (view c) n q accepted
+
+    pub from-one : 1 ≤ n
+    from-one = allowed .number-from
+
+    pub to-eight : n ≤ 8
+    to-eight = omega (arith, allowed .number-to, eight)
+
+    room : length l < 8
+    room = omega (arith, install-room t sound n q allowed, eight)
+
+    pub count-room : c .roll .count < 8
+    count-room = omega (arith, count-is c left, room)
+
+    absent : some? (hasNumber n) l ≡ false
+    unfolding present
+    absent = allowed .new
+
+    roll-next : rollWith (c .roll) n (grantOf x) ≡ rollOf (u .applets)
+    unfolding adminTables newcomer
+    roll-next = ap (λ (r : Roll). rollWith r n (grantOf x)) (roll-form c left) ∙ roll-more l x absent from-one room own
+
+    selectable-next : turnedSet (c .selectable) n true ≡ selectableSet (u .applets)
+    unfolding adminTables newcomer selectableSet
+    selectable-next = ap (λ (s : ℕ). turnedSet s n true) (selectable-form c left) ∙ set-more l x absent (λ (y : Applet). y .selectable)
+
+    -- what nobody has, the newcomer has
+    as-nobody : {A : Type 0} (f : Applet → A) → f x ≡ f nobody → (k : ℕ) → f (at (u .applets) k) ≡ f (at l k)
+    unfolding adminTables newcomer
+    as-nobody f h k = ap f (at-more l x absent k) ∙ go (n == k) refl
+      where
+        go : (b : Bool) → (n == k) ≡ b → f (if b then x else at l k) ≡ f (at l k)
+        go true e = h ∙ ap f (sym (ap (at l) (sym (eqb-true n k e)) ∙ first-missed (hasNumber n) nobody l absent))
+        go false e = refl
+
+    registered-next : table 20 (registeredSet (u .applets)) ≡ table 20 (registeredSet l)
+    unfolding registeredSet
+    registered-next =
+        table-alike 20 _ _ (λ e h. set-alike _ _ (λ k a b. as-nobody (λ (y : Applet). getD (y .events) e false) (unfold newcomer in refl) k))
+
+    made-next : madeTable (u .applets) ≡ madeTable l
+    unfolding madeTable
+    made-next = table-alike 8 _ _ (λ i h. as-nobody (λ (y : Applet). y .made) (unfold newcomer in refl) (suc i))
+
+    -- no row is the newcomer's, so what is shown stays
+    no-row : hasEnabledRow n (t .rows) ≡ false
+    unfolding hasEnabledRow
+    no-row =
+        none-counted (isEnabledOf n) (t .rows)
+        (omega (
+          arith,
+          count-within (isEnabledOf n) (λ (y : Row). y .owner == n) (λ y h. and-left (y .owner == n) (y .enabled) h) (t .rows),
+          sound .rows-made n,
+          ap (λ (y : Applet). y .made) (absent-nobody t n (allowed .new)),
+        ))
+
+    desk-next : c .desk ≡ storedDesk (marked t u (view c .desk))
+    unfolding adminTables
+    desk-next =
+        due-desk t u (view c .desk) (desk-form c left)
+        (sym (install-menu t (sound .numbers-apart) n q no-row)) (sym (install-events t n q))
+        (unmarked (c .desk .session) (c .desk .due .menu)) (unmarked (c .desk .session) (c .desk .due .events))
+
+    joined
+        : {g : Grant} {r : Roll} {s : ℕ}
+        → g ≡ grantOf x
+        → r ≡ rollWith (c .roll) n g
+        → s ≡ turnedSet (c .selectable) n true
+        → _≡_ {A = Card}
+        (record { roll = r; selectable = s; registered = c .registered; made = c .made; control = c .control; rows = c .rows; bank = c .bank; desk = c .desk })
+        (stored (record { tables = u; desk = marked t u (view c .desk) }))
+    joined e f h =
+        card-is (record { tables = u; desk = marked t u (view c .desk) })
+        (f ∙ ap (rollWith (c .roll) n) e ∙ roll-next) (h ∙ selectable-next)
+        (registered-form c left ∙ sym registered-next) (made-form c left ∙ sym made-next)
+        (unfold adminTables in control-form c left) (unfold adminTables in rows-form c left) (unfold adminTables in bank-form c left)
+        desk-next
+
+  -- INSTALL, by what the parts of the code say
+  module _ {r : ℕ} (refuses : RefusesInstall (c .roll) n q r) where
+    abbrev m : Model
+    m = view c
+
+    abbrev call : Call
+    call = admin (install n q)
+
+    refusal-is : r ≡ refusal m call
+    unfolding refusal lines
+    refusal-is = refuses t sound (left-bounds c left) (roll-form c left)
+
+    pub accepts : r ≡ 0 → refusal m call ≡ 0
+    accepts h = sym refusal-is ∙ h
+
+    -- the card that a call leaves, by its refusal
+    abbrev Leaves : Card → Type 0
+    Leaves k = k ≡ stored (record { tables = tablesBy m call r; desk = marked t (tablesBy m call r) (m .desk) })
+
+    pub with-newcomer
+        : (h : r ≡ 0) {g : Grant} {s : ℕ} {w : Roll} {k : Card}
+        → g ≡ grantOf x
+        → w ≡ rollWith (c .roll) n g
+        → s ≡ turnedSet (c .selectable) n true
+        → k ≡ record { roll = w; selectable = s; registered = c .registered; made = c .made; control = c .control; rows = c .rows; bank = c .bank; desk = c .desk }
+        → Leaves k
+    unfolding tablesAfter
+    with-newcomer h e f i is = rw h (is ∙ joined (accepts h) e f i)
+
+    pub as-it-was : (r ≡ 0 → ⊥) → {k : Card} → k ≡ c → Leaves k
+    as-it-was h is =
+        rw (ne-eqb r 0 h) (is ∙ left-form c left ∙ ap (λ (d : Desk). stored (record { tables = t; desk = d })) (sym (marked-same t (m .desk))))
+
+    pub replies : {k : Card} {a : Done} → Leaves k → a ≡ doneOf (only r) → _≡_ {A = Changed} (record { card = k; answer = a }) (changedBy (step m call))
+    replies e f =
+        changes (step m call)
+        (e ∙ ap stored (sym (after-by m call refusal-is (unfold deskAfter in refl))))
+        (f ∙ ap doneOf (sym (answer-by m call refusal-is (unfold answer in refl))))

@@ -1,0 +1,175 @@
+-- What lock and unlock leave of the card.
+-- Assumes nothing.
+use Prim.Native.Nat.{ℕ, _≤_}
+use native.Mathlib.Omega.{arith}
+use mathlib.Core.Path.{_≡_, refl, sym, ap, ap₂, _∙_}
+use mathlib.Core.Bool.{Bool, true, false, not, Bool·beq, _&&_, _||_}
+use mathlib.Core.List.{List}
+use Rattle.lists.specs.Tests.{if_then_else_, _==_}
+use Rattle.lists.specs.Lists.{some?, change}
+use Rattle.lists.proofs.Decided.{turned}
+use Rattle.lists.proofs.Tables.{table-alike}
+use Rattle.sets.specs.Sets.{has?, meets, turnedSet}
+use Rattle.sets.proofs.Bits.{set-alike}
+use Rattle.rules.specs.declared.Done.{Done}
+use Rattle.rules.specs.Holds.{Applet, Bounds, Tables, Model, withApplets, withSelectable}
+use Rattle.rules.specs.Held.{viewRows}
+use Rattle.rules.specs.Applets.{hasNumber, present, applet}
+use Rattle.rules.specs.Calls.{AdminCall, admin, lock, unlock, only}
+use Rattle.rules.specs.Desk.{menuChanges, eventsChange, marked}
+use Rattle.rules.specs.Refusals.{lines, lowest, absent, adminLines, refusal}
+use Rattle.rules.specs.Step.{step, tablesAfter, adminTables, deskAfter, answer}
+use Rattle.runs.proofs.Looked.{number-from, number-to}
+use Rattle.runs.proofs.Registered.{changed-sound, selectable-same}
+use Rattle.applets.specs.ByNumber.{at, selectableSet, registeredSet}
+use Rattle.applets.proofs.Numbers.{at-change, roll-kept, registered-kept, made-kept}
+use Rattle.screen.specs.Asked.{hasEnabledRow}
+use Rattle.screen.proofs.MenuByApplets.{lock-menu}
+use Rattle.downloads.specs.Turns.{anyCode, codeTurns}
+use Rattle.downloads.proofs.Shown.{no-turn}
+use Rattle.card.specs.declared.Card.{Card}
+use Rattle.card.specs.declared.Changed.{Changed}
+use Rattle.card.specs.View.{view, stored, Left}
+use Rattle.card.specs.Reply.{changedBy, doneOf}
+use Rattle.card.proofs.Left.{left-sound, left-bounds}
+use Rattle.card.proofs.Reply.{changes, tablesBy, after-by, answer-by, next-card, selectable-form, registered-form, control-form}
+use Rattle.card.proofs.Marks.{withDue}
+use Rattle.card.proofs.Present.{present-by, selectable-has, menu-same, events-none}
+use Rattle.card.proofs.Listeners.{set-is, codes-by}
+
+-- lock and unlock as one call: the applet becomes selectable, or locked
+abbrev locking : (selectable : Bool) (applet : ℕ) → AdminCall
+locking on n = if on then unlock n else lock n
+
+module _ (c : Card) (left : Left c) (n : ℕ) (on : Bool) (there : present (view c .tables) n ≡ true) where
+  abbrev t : Tables
+  t = view c .tables
+
+  abbrev l : List Applet
+  l = t .applets
+
+  abbrev next : List Applet
+  next = change (hasNumber n) (withSelectable on) l
+
+  abbrev u : Tables
+  u = withApplets t next
+
+  here : some? (hasNumber n) l ≡ true
+  unfolding present
+  here = there
+
+  selectable-turned : turnedSet (c .selectable) n on ≡ selectableSet next
+  unfolding selectableSet
+  selectable-turned = set-alike _ _ each
+    where
+      each : (k : ℕ) → 1 ≤ k → k ≤ 8 → (if k == n then on else has? (c .selectable) k) ≡ at next k .selectable
+      each k a b =
+          ap (λ (b : Bool). if b then on else has? (c .selectable) k) (turned k n)
+          ∙ go (n == k)
+          ∙ sym (ap (λ (x : Applet). x .selectable) (at-change l n (withSelectable on) here (λ x. refl) k))
+        where
+          go : (b : Bool) → (if b then on else has? (c .selectable) k) ≡ (if b then withSelectable on (at l k) else at l k) .selectable
+          go true = refl
+          go false = selectable-has c left k a b
+
+  registered-same : (e : ℕ) → registeredSet next e ≡ registeredSet l e
+  registered-same e = registered-kept l n (withSelectable on) here (λ x. refl) e (λ x. refl)
+
+  codes-differ : anyCode (codeTurns (c .registered) (c .selectable) (turnedSet (c .selectable) n on)) ≡ eventsChange t u
+  codes-differ =
+      codes-by c left u (changed-sound t n (withSelectable on) (selectable-same on) (left-sound c left .tables)) (left-bounds c left) (turnedSet (c .selectable) n on)
+      (λ e h. ap₂ meets (registered-same e ∙ sym (set-is c left e (omega arith))) (sym selectable-turned))
+
+  menu-differs : (not (Bool·beq (has? (c .selectable) n) on) && hasEnabledRow n (viewRows (c .rows))) ≡ menuChanges t u
+  unfolding view applet
+  menu-differs =
+      let sound = left-sound c left .tables in
+      let eight : t .bounds .applets ≡ 8 = ap (λ (b : Bounds). b .applets) (left-bounds c left) in
+      ap (λ (b : Bool). not (Bool·beq b on) && hasEnabledRow n (t .rows)) (selectable-has c left n (number-from t sound n there) (omega (arith, number-to t sound n there)))
+      ∙ sym (lock-menu t (sound .numbers-apart) n on there)
+
+-- LOCK AND UNLOCK, by what the parts of the code say
+module _ (c : Card) (left : Left c) (n : ℕ) (on : Bool) {there : Bool} (found : there ≡ has? (c .roll .present) n) {r : ℕ} (refused : r ≡ (if not there then 2 else 0)) where
+  abbrev m : Model
+  m = view c
+
+  lines-are : (b : Bool) → (if absent (m .tables) n then 2 else 0) ≡ refusal m (admin (locking b n))
+  unfolding refusal lines adminLines lowest
+  lines-are true = refl
+  lines-are false = refl
+
+  refusal-is : r ≡ refusal m (admin (locking on n))
+  unfolding absent
+  refusal-is = refused ∙ ap (λ (b : Bool). if not b then 2 else 0) (found ∙ present-by c left n) ∙ lines-are on
+
+  tables-are : (b : Bool) → adminTables (m .tables) (locking b n) ≡ withApplets (m .tables) (change (hasNumber n) (withSelectable b) (m .tables .applets))
+  unfolding adminTables
+  tables-are true = refl
+  tables-are false = refl
+
+  still : deskAfter m (admin (locking on n)) ≡ m .desk
+  unfolding deskAfter
+  still = refl
+
+  plain : answer m (admin (locking on n)) ≡ only 0
+  unfolding answer
+  plain = refl
+
+  module _
+      {s : ℕ} {menu events x y : Bool}
+      (sets : s ≡ (if there then turnedSet (c .selectable) n on else c .selectable))
+      (mv : menu ≡ (there && (not (Bool·beq (has? (c .selectable) n) on) && hasEnabledRow n (viewRows (c .rows)))))
+      (ev : events ≡ anyCode (codeTurns (c .registered) (c .selectable) s))
+      (mx : x ≡ (c .desk .session && menu || c .desk .due .menu))
+      (my : y ≡ (c .desk .session && events || c .desk .due .events))
+    where
+      abbrev After : Tables → Type 0
+      After w =
+          _≡_ {A = Card}
+          (record { roll = c .roll; selectable = s; registered = c .registered; made = c .made; control = c .control; rows = c .rows; bank = c .bank; desk = withDue (c .desk) x y })
+          (stored (record { tables = w; desk = marked (m .tables) w (m .desk) }))
+
+      when-there : there ≡ true → After (tablesBy m (admin (locking on n)) r)
+      unfolding tablesAfter present
+      when-there h =
+          let z : r ≡ 0 = refused ∙ ap (λ (b : Bool). if not b then 2 else 0) h in
+          let is-here : present (m .tables) n ≡ true = sym (found ∙ present-by c left n) ∙ h in
+          let own : s ≡ turnedSet (c .selectable) n on = sets ∙ ap (λ (b : Bool). if b then turnedSet (c .selectable) n on else c .selectable) h in
+          let ls = m .tables .applets in
+          rw (z, tables-are on)
+          (next-card c left (withApplets (m .tables) (change (hasNumber n) (withSelectable on) ls))
+          (roll-kept ls n (withSelectable on) is-here (λ k. refl))
+          (made-kept ls n (withSelectable on) is-here (λ k. refl) (λ k. refl))
+          refl refl
+          (own ∙ selectable-turned c left n on is-here)
+          (registered-form c left ∙ table-alike 20 _ _ (λ e k. sym (registered-same c left n on is-here e)))
+          (control-form c left)
+          (mv ∙ ap (λ (b : Bool). b && (not (Bool·beq (has? (c .selectable) n) on) && hasEnabledRow n (viewRows (c .rows)))) h ∙ menu-differs c left n on is-here)
+          (ev ∙ ap (λ (k : ℕ). anyCode (codeTurns (c .registered) (c .selectable) k)) own ∙ codes-differ c left n on is-here)
+          mx my)
+
+      when-absent : there ≡ false → After (tablesBy m (admin (locking on n)) r)
+      when-absent h =
+          let z : r ≡ 2 = refused ∙ ap (λ (b : Bool). if not b then 2 else 0) h in
+          let own : s ≡ c .selectable = sets ∙ ap (λ (b : Bool). if b then turnedSet (c .selectable) n on else c .selectable) h in
+          rw z
+          (next-card c left (m .tables) refl refl refl refl
+          (own ∙ selectable-form c left) (registered-form c left) (control-form c left)
+          (mv ∙ ap (λ (b : Bool). b && (not (Bool·beq (has? (c .selectable) n) on) && hasEnabledRow n (viewRows (c .rows)))) h ∙ sym (menu-same (m .tables)))
+          (ev ∙ sym (no-turn (c .registered) (c .selectable) s (sym own)) ∙ sym (events-none (m .tables)))
+          mx my)
+
+      card-after : (b : Bool) → there ≡ b → After (tablesBy m (admin (locking on n)) r)
+      card-after true h = when-there h
+      card-after false h = when-absent h
+
+      pub turns-lock : {a : Done} → a ≡ doneOf (only r)
+          → _≡_ {A = Changed}
+          (record {
+            card = record { roll = c .roll; selectable = s; registered = c .registered; made = c .made; control = c .control; rows = c .rows; bank = c .bank; desk = withDue (c .desk) x y };
+            answer = a;
+          })
+          (changedBy (step m (admin (locking on n))))
+      turns-lock e =
+          changes (step m (admin (locking on n))) (card-after there refl ∙ ap stored (sym (after-by m (admin (locking on n)) refusal-is still)))
+          (e ∙ ap doneOf (sym (answer-by m (admin (locking on n)) refusal-is plain)))

@@ -1,0 +1,158 @@
+-- What a new entry leaves of the card: its row stands where the applet's next pair asks, and one more of its entries is made.
+-- Assumes nothing.
+use Prim.Native.Nat.{ℕ, zero, suc, _+_, _<_}
+use native.Mathlib.Omega.{arith}
+use mathlib.Core.Path.{_≡_, refl, sym, ap, ap₂, _∙_}
+use mathlib.Core.Bool.{Bool, not, _&&_, _||_}
+use mathlib.Core.List.{List, [], _∷_}
+use lib.ListN.{length, take, getD}
+use lib.Seq.{take-all}
+use borrow.Author.Tests.{ne-eqb}
+use Rattle.lists.specs.Tests.{if_then_else_, _==_, _≤?_}
+use Rattle.lists.specs.Lists.{insertAt}
+use Rattle.sets.specs.Sets.{has?}
+use Rattle.rules.specs.declared.Given.{Given}
+use Rattle.rules.specs.declared.Grant.{Grant}
+use Rattle.rules.specs.declared.Pair.{Pair}
+use Rattle.rules.specs.declared.Row as held
+use Rattle.rules.specs.declared.Rows.{Rows}
+use Rattle.rules.specs.Holds.{Applet, Row, Bounds, Tables, withOneMore}
+use Rattle.rules.specs.Held.{viewRow, viewRows, storedRow, storedRows}
+use Rattle.rules.specs.Applets.{nobody, present, applet, entries}
+use Rattle.rules.specs.Rows.{noPair, place, identifierFor, nextPair, nextIdentifier, withEntry}
+use Rattle.rules.specs.Calls.{entry, newEntry, only, numbered}
+use Rattle.rules.specs.Refusals.{line, lowest, refusal}
+use Rattle.rules.specs.Step.{step, outcome, entryTables, answer, entryAnswer}
+use Rattle.runs.specs.Sound.{SoundTables}
+use Rattle.runs.proofs.Looked.{has-its-number, sound-applet}
+use Rattle.runs.proofs.Filled.{NewEntry, new-entry}
+use Rattle.runs.proofs.Room.{entry-room}
+use Rattle.applets.specs.ByNumber.{byNumber, grantOf, madeWith}
+use Rattle.applets.proofs.Numbers.{roll-kept, selectable-kept, registered-kept}
+use Rattle.applets.proofs.Made.{made-more, pair-next}
+use Rattle.menu.specs.Table.{newRow, withRow, TidyRow}
+use Rattle.menu.proofs.Tidy.{row-back, tidy-row, inserted-room}
+use Rattle.screen.proofs.MenuByApplets.{entry-menu}
+use Rattle.downloads.proofs.Quiet.{entry-events}
+use Rattle.refusals.specs.Lines.{unfitText}
+use Rattle.refusals.proofs.Calls.{new-refusal}
+use Rattle.card.specs.declared.Card.{Card}
+use Rattle.card.specs.declared.Numbered.{Numbered}
+use Rattle.card.specs.View.{view, stored, Left}
+use Rattle.card.specs.Reply.{numberedBy, givenOf}
+use Rattle.card.proofs.Left.{left-sound, left-bounds}
+use Rattle.card.proofs.Reply.{gives, made-form}
+use Rattle.card.proofs.Present.{present-by, grant-is, made-is}
+use Rattle.card.proofs.EntryRows.{withEntries, entry-after, entry-refused, entry-card, selectable-there}
+
+-- a row that is stored stands in its one form
+pub row-tidy : {r : held.Row} (s : Row) → r ≡ storedRow s → TidyRow r
+row-tidy s e = rw e (tidy-row s)
+
+-- the rows with the new one
+rows-are
+    : (a : Applet) (n : ℕ) (help : Bool) (text : List ℕ) (rows : List Row) {p : Pair} {i : ℕ} {r : held.Row} {next : Rows}
+    → a .number ≡ n
+    → p ≡ nextPair a
+    → i ≡ identifierFor (p .identifier) rows
+    → r ≡ storedRow (newRow i n help text)
+    → next ≡ storedRows (insertAt (place (p .position) (length rows)) (viewRow r) rows)
+    → next ≡ storedRows (withEntry a help text rows)
+unfolding withEntry nextIdentifier
+rows-are a n help text rows {p} {i} {r} own is f g h =
+    let row : viewRow r ≡ newRow (identifierFor (nextPair a .identifier) rows) (a .number) help text =
+    ap viewRow g
+    ∙ row-back (newRow i n help text)
+    ∙ ap₂ (λ (k m : ℕ). newRow k m help text) (f ∙ ap (λ (q : Pair). identifierFor (q .identifier) rows) is) (sym own) in
+    h ∙ ap₂ (λ (q : Pair) (y : Row). storedRows (insertAt (place (q .position) (length rows)) y rows)) is row
+
+module _ (c : Card) (left : Left c) (n : ℕ) (help : Bool) (text : List ℕ) {there : Bool} (found : there ≡ has? (c .roll .present) n)
+    {g : Grant} (granted : g ≡ byNumber (grantOf nobody) (c .roll .grants) n) {k : ℕ} (counted : k ≡ byNumber 0 (c .made) n)
+    {fits : Bool} (fit : fits ≡ not (unfitText (g .text) text))
+    {r : ℕ} (e : r ≡ lowest (line 2 (not there) ∷ line 10 (g .entries ≤? k) ∷ line 12 (not fits) ∷ []))
+  where
+    abbrev t : Tables
+    t = view c .tables
+
+    abbrev x : Applet
+    x = applet (view c .tables) n
+
+    grant-of : g ≡ grantOf x
+    grant-of = granted ∙ grant-is c left n
+
+    made-of : k ≡ x .made
+    made-of = counted ∙ made-is c left n
+
+    is-new : r ≡ refusal (view c) (entry (newEntry n help text))
+    unfolding grantOf
+    is-new =
+        new-refusal (view c) n (found ∙ present-by c left n) help text
+        (ap (λ (h : Grant). h .entries) grant-of) made-of (ap (λ (h : Grant). h .text) grant-of) fit e
+
+    -- the answer: the identifier of the row
+    gives-number : {i : ℕ} {a : Given} → (r ≡ 0 → i ≡ nextIdentifier x (t .rows)) → a ≡ givenOf (if r == 0 then numbered i else only r) → a ≡ givenOf (step (view c) (entry (newEntry n help text)) .answer)
+    unfolding step
+    gives-number {i} f says = says ∙ go r f ∙ ap (λ (m : ℕ). givenOf (outcome m (view c) (entry (newEntry n help text)) .answer)) is-new
+      where
+        go : (m : ℕ) → (m ≡ 0 → i ≡ nextIdentifier x (t .rows)) → givenOf (if m == 0 then numbered i else only m) ≡ givenOf (outcome m (view c) (entry (newEntry n help text)) .answer)
+        go zero f = unfold outcome answer entryAnswer in ap (λ (k : ℕ). givenOf (numbered k)) (f refl)
+        go (suc m) f = unfold outcome in ap (λ (b : Bool). givenOf (if b then numbered i else only (suc m))) (ne-eqb (suc m) 0 (λ h. omega arith))
+
+    pub new-refused : (i : ℕ) {a : Given} {s : Card} → a ≡ givenOf (if r == 0 then numbered i else only r) → (r ≡ 0 → ⊥) → s ≡ c → _≡_ {A = Numbered} (record { card = s; answer = a }) (numberedBy (step (view c) (entry (newEntry n help text))))
+    new-refused i says z is =
+        gives (step (view c) (entry (newEntry n help text))) (is ∙ entry-refused c left (newEntry n help text) is-new z) (gives-number (λ h. absurd (z h)) says)
+
+    module _ (z : r ≡ 0) where
+      news : NewEntry t n text
+      news = new-entry (view c) n help text (sym is-new ∙ z)
+
+      sound : SoundTables t
+      sound = left-sound c left .tables
+
+      whole : take 15 text ≡ text
+      whole = take-all 15 text (omega (arith, news .fits .to, sound-applet t sound n (news .here) .text, ap (λ (b : Bounds). b .text) (left-bounds c left)))
+
+      put : (p : ℕ) (new : Row) → withRow p new (t .rows) ≡ insertAt (place p (length (t .rows))) new (t .rows)
+      put p new = inserted-room p new (t .rows) (omega (arith, entry-room t sound n (news .here) (news .more), ap (λ (b : Bounds). b .rows) (left-bounds c left)))
+
+      -- there is room for one entry more
+      pub made-few : k < 4
+      made-few = omega (arith, news .more, made-of, sound-applet t sound n (news .here) .entries, ap (λ (b : Bounds). b .entries) (left-bounds c left))
+
+      -- the tables that it leaves
+      abbrev u : Tables
+      u = entryTables t (newEntry n help text)
+
+      pub new-accepted
+          : {p : Pair} {i j : ℕ} {row : held.Row} {next : Rows} {more : List ℕ} {turns y : Bool} {s : Card} {a : Given}
+          → a ≡ givenOf (if r == 0 then numbered j else only r)
+          → p ≡ getD (g .pairs) k noPair
+          → i ≡ identifierFor (p .identifier) (viewRows (c .rows))
+          → row ≡ storedRow (newRow i n help (take 15 text))
+          → next ≡ storedRows (withRow (p .position) (viewRow row) (viewRows (c .rows)))
+          → more ≡ madeWith (c .made) n (k + 1)
+          → turns ≡ has? (c .selectable) n
+          → y ≡ (c .desk .session && turns || c .desk .due .menu)
+          → s ≡ withEntries c more next y
+          → j ≡ i
+          → _≡_ {A = Numbered} (record { card = s; answer = a }) (numberedBy (step (view c) (entry (newEntry n help text))))
+      unfolding entryTables nextIdentifier view present applet
+      new-accepted {p} {i} {j} {row} says pp ii rr nx mm tu y is ji =
+          let here = news .here in
+          let pair : p ≡ nextPair x = pp ∙ ap₂ (λ (h : Grant) (m : ℕ). getD (h .pairs) m noPair) grant-of made-of ∙ pair-next x (news .more) in
+          let l = t .applets in
+          let one : k + 1 ≡ suc (x .made) = omega (arith, made-of) in
+          gives (step (view c) (entry (newEntry n help text)))
+          (is
+          ∙ entry-card c left u
+          (roll-kept l n withOneMore here (λ x. refl))
+          (selectable-kept l n withOneMore here (λ x. refl) (λ x. refl))
+          (λ e. registered-kept l n withOneMore here (λ x. refl) e (λ x. refl))
+          refl refl
+          (entry-events t n (withEntry x help text (t .rows)))
+          (mm ∙ ap₂ (λ (h : List ℕ) (m : ℕ). madeWith h n m) (made-form c left) one ∙ made-more l n here)
+          (rows-are x n help text (t .rows) (has-its-number t n here) pair ii (rr ∙ ap (λ (b : List ℕ). storedRow (newRow i n help b)) whole) (nx ∙ ap storedRows (put (p .position) (viewRow row))))
+          (tu ∙ selectable-there c left n here ∙ sym (entry-menu t (sound .numbers-apart) n here help text))
+          y
+          ∙ ap stored (sym (entry-after c left (newEntry n help text) is-new z)))
+          (gives-number (λ h. ji ∙ ii ∙ ap (λ (q : Pair). identifierFor (q .identifier) (t .rows)) pair) says)

@@ -1,0 +1,67 @@
+-- Who is there and who is selectable, by the sets of a card that calls have left; and that nothing shown changes where nothing does.
+-- Assumes nothing.
+use Prim.Native.Nat.{ℕ, _≤_}
+use native.Mathlib.Omega.{arith}
+use mathlib.Core.Path.{_≡_, refl, sym, ap, _∙_}
+use mathlib.Core.Bool.{true, false}
+use mathlib.Core.List.{List}
+use Rattle.lists.proofs.Alike.{unlike-not}
+use Rattle.sets.specs.Sets.{has?}
+use Rattle.sets.proofs.Bits.{has-set}
+use Rattle.rules.specs.declared.Roll.{Roll}
+use Rattle.rules.specs.Holds.{Applet, Bounds, Tables}
+use Rattle.rules.specs.Applets.{nobody, present, applet}
+use Rattle.rules.specs.Commands.{shownMenu}
+use Rattle.rules.specs.Desk.{sameRow?, menuChanges, eventsChange}
+use Rattle.rules.proofs.DueMarks.{row-self}
+use Rattle.runs.proofs.Looked.{number-from, number-to}
+use Rattle.applets.specs.ByNumber.{at, byNumber, grantOf, rollOf, selectableSet, madeTable}
+use Rattle.applets.proofs.Numbers.{by-any, present-in}
+use Rattle.downloads.proofs.Shown.{events-same}
+use Rattle.card.specs.declared.Card.{Card}
+use Rattle.card.specs.View.{view, Left}
+use Rattle.card.proofs.Left.{left-sound, left-bounds}
+use Rattle.card.proofs.Reply.{roll-form, selectable-form, made-form}
+
+-- whether an applet is there, by the set of those present
+pub present-by : (c : Card) (left : Left c) (n : ℕ) → has? (c .roll .present) n ≡ present (view c .tables) n
+present-by c left n =
+    ap (λ (r : Roll). has? (r .present) n) (roll-form c left) ∙ present-in (view c .tables) (left-sound c left .tables) (left-bounds c left) n
+
+-- what an applet was installed with, and how many entries it has made, by its number
+module _ (c : Card) (left : Left c) (n : ℕ) where
+  pub grant-is : byNumber (grantOf nobody) (c .roll .grants) n ≡ grantOf (applet (view c .tables) n)
+  unfolding rollOf applet
+  grant-is =
+      ap (λ (r : Roll). byNumber (grantOf nobody) (r .grants) n) (roll-form c left)
+      ∙ by-any (view c .tables) (left-sound c left .tables) (left-bounds c left) grantOf n
+
+  pub made-is : byNumber 0 (c .made) n ≡ applet (view c .tables) n .made
+  unfolding madeTable applet
+  made-is =
+      ap (λ (l : List ℕ). byNumber 0 l n) (made-form c left)
+      ∙ by-any (view c .tables) (left-sound c left .tables) (left-bounds c left) (λ (x : Applet). x .made) n
+
+-- a number that is there is one of 1 to 8
+module _ (c : Card) (left : Left c) (n : ℕ) (there : has? (c .roll .present) n ≡ true) where
+  here : present (view c .tables) n ≡ true
+  here = sym (present-by c left n) ∙ there
+
+  pub low-is : 1 ≤ n
+  low-is = number-from (view c .tables) (left-sound c left .tables) n here
+
+  pub high-is : n ≤ 8
+  high-is =
+      let eight : view c .tables .bounds .applets ≡ 8 = ap (λ (b : Bounds). b .applets) (left-bounds c left) in
+      omega (arith, number-to (view c .tables) (left-sound c left .tables) n here, eight)
+
+pub selectable-has : (c : Card) (left : Left c) (k : ℕ) → 1 ≤ k → k ≤ 8 → has? (c .selectable) k ≡ at (view c .tables .applets) k .selectable
+unfolding selectableSet
+selectable-has c left k a b = ap (λ (s : ℕ). has? s k) (selectable-form c left) ∙ has-set (λ k. at (view c .tables .applets) k .selectable) k a b
+
+-- nothing changes of what is shown where nothing changes
+pub menu-same : (t : Tables) → menuChanges t t ≡ false
+menu-same t = unfold menuChanges in unlike-not sameRow? row-self (shownMenu t)
+
+pub events-none : (t : Tables) → eventsChange t t ≡ false
+events-none t = events-same t t (λ e h k. refl)

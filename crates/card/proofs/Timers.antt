@@ -1,0 +1,129 @@
+-- What allocate and release leave of the card: what the bank's own call gives, for an applet that is there.
+-- Assumes nothing.
+use Prim.Native.Nat.{ℕ, zero, suc}
+use native.Mathlib.Omega.{arith}
+use mathlib.Core.Path.{_≡_, refl, sym, ap, _∙_}
+use mathlib.Core.Bool.{Bool, true, false}
+use mathlib.Core.List.{List}
+use borrow.Author.Tests.{le-leb, ne-eqb}
+use Rattle.lists.specs.Tests.{if_then_else_}
+use Rattle.sets.specs.Sets.{has?}
+use Rattle.rules.specs.declared.Bank.{Bank}
+use Rattle.rules.specs.declared.Done.{Done}
+use Rattle.rules.specs.declared.Given.{Given}
+use Rattle.rules.specs.declared.Grant.{Grant}
+use Rattle.rules.specs.Holds.{Model, withTimers}
+use Rattle.rules.specs.Applets.{present, applet, nobody}
+use Rattle.rules.specs.Timers.{isOwner, withAllocated, withReleased}
+use Rattle.rules.specs.Commands.{selectable}
+use Rattle.rules.specs.Calls.{timer, allocate, release}
+use Rattle.rules.specs.Beside.{BankOutcome, bankAllocate, allocateBy, bankRelease, releaseBy}
+use Rattle.rules.specs.Desk.{marked}
+use Rattle.rules.specs.Refusals.{refusal, lines, lowest, timerLines, absent}
+use Rattle.rules.specs.Step.{step, outcome, changed, tablesAfter, deskAfter, timerTables, answer, timerAnswer}
+use Rattle.timers.specs.Promises.{Allocates, Releases}
+use Rattle.timers.proofs.Settled as settled
+use Rattle.screen.proofs.MenuByApplets.{kept-menu}
+use Rattle.downloads.proofs.Quiet.{timers-events}
+use Rattle.applets.specs.ByNumber.{byNumber, grantOf}
+use Rattle.card.specs.declared.Card.{Card}
+use Rattle.card.specs.declared.Changed.{Changed}
+use Rattle.card.specs.declared.Numbered.{Numbered}
+use Rattle.card.specs.View.{view, stored, Left}
+use Rattle.card.specs.Reply.{changedBy, numberedBy, doneOf, givenOf}
+use Rattle.card.proofs.Left.{left-form}
+use Rattle.card.proofs.Marks.{due-desk, unmarked}
+use Rattle.card.proofs.Reply.{changes, gives, card-is, roll-form, selectable-form, registered-form, made-form, control-form, rows-form, desk-form}
+use Rattle.card.proofs.Present.{present-by, grant-is, low-is, high-is}
+
+-- the card with another bank
+abbrev withBank : Card → Bank → Card
+withBank c b =
+    record { roll = c .roll; selectable = c .selectable; registered = c .registered; made = c .made; control = c .control; rows = c .rows; bank = b; desk = c .desk }
+
+module _ (c : Card) (l : Left c) where
+  abbrev m : Model
+  m = view c
+
+  abbrev os : List ℕ
+  os = c .bank .owner
+
+  -- timers change nothing that is shown
+  with-timers : (k : List ℕ) → withBank c (record { owner = k }) ≡ stored (record { tables = withTimers (m .tables) k; desk = marked (m .tables) (withTimers (m .tables) k) (m .desk) })
+  unfolding selectable
+  with-timers k =
+      let t = m .tables in
+      let u = withTimers t k in
+      card-is (record { tables = u; desk = marked t u (m .desk) })
+      (roll-form c l) (selectable-form c l) (registered-form c l) (made-form c l) (control-form c l) (rows-form c l) refl
+      (due-desk t u (m .desk) (desk-form c l) (sym (kept-menu t u refl (λ o. refl))) (sym (timers-events t k))
+      (unmarked (c .desk .session) (c .desk .due .menu)) (unmarked (c .desk .session) (c .desk .due .events)))
+
+  module _ (n : ℕ) {there : Bool} (found : there ≡ has? (c .roll .present) n) where
+    is-there : there ≡ present (m .tables) n
+    is-there = found ∙ present-by c l n
+
+    -- an applet that is there has a number that owns timers
+    owns : there ≡ true → isOwner n ≡ true
+    unfolding isOwner
+    owns h =
+        let here : has? (c .roll .present) n ≡ true = sym found ∙ h in
+        rw (le-leb 1 n (low-is c l n here), le-leb n 8 (high-is c l n here)) refl
+
+    -- ALLOCATE
+    module _ {g : Grant} (grant : g ≡ byNumber (grantOf nobody) (c .roll .grants) n) where
+      limit-is : g .timers ≡ applet (m .tables) n .limits .timers
+      unfolding grantOf
+      limit-is = ap (λ (x : Grant). x .timers) (grant ∙ grant-is c l n)
+
+      by-bank : (b : Bool) → there ≡ b → bankAllocate os (if b then n else 0) (g .timers) ≡ allocateBy (refusal m (timer (allocate n))) os n
+      unfolding bankAllocate refusal lines timerLines lowest absent view
+      by-bank true h = rw (owns h, sym is-there, h, limit-is) refl
+      by-bank false h = unfold isOwner allocateBy in rw (sym is-there, h) refl
+
+      by-refusal : (k : ℕ) → withBank c (record { owner = allocateBy k os n .owners }) ≡ stored (outcome k m (timer (allocate n)) .after)
+      unfolding allocateBy outcome changed tablesAfter deskAfter timerTables view
+      by-refusal zero = with-timers (withAllocated os n)
+      by-refusal (suc k) = left-form c l
+
+      answered : (k : ℕ) → settled.givenOf (allocateBy k os n .answer .refusal) (allocateBy k os n .answer .number) ≡ givenOf (outcome k m (timer (allocate n)) .answer)
+      unfolding allocateBy outcome answer timerAnswer givenOf view
+      answered zero = refl
+      answered (suc k) = rw (ne-eqb (suc k) 0 (λ z. omega arith)) refl
+
+      pub allocates : {owner : ℕ} {a : Given} {b : Bank} → owner ≡ (if there then n else 0) → Allocates (c .bank) owner (g .timers) a b
+          → _≡_ {A = Numbered} (record { card = withBank c b; answer = a }) (numberedBy (step m (timer (allocate n))))
+      unfolding step
+      allocates {owner} {a} {b} o e =
+          let k = refusal m (timer (allocate n)) in
+          let same : bankAllocate os owner (g .timers) ≡ allocateBy k os n = ap (λ (z : ℕ). bankAllocate os z (g .timers)) o ∙ by-bank there refl in
+          gives (step m (timer (allocate n)))
+          (ap (withBank c) (settled.allocates-owners (c .bank) owner (g .timers) a b e ∙ ap (λ (x : BankOutcome). record { owner = x .owners }) same) ∙ by-refusal k)
+          (settled.allocates-answer (c .bank) owner (g .timers) a b e ∙ ap (λ (x : BankOutcome). settled.givenOf (x .answer .refusal) (x .answer .number)) same ∙ answered k)
+
+    -- RELEASE
+    module _ (i : ℕ) where
+      freed-by-bank : (b : Bool) → there ≡ b → bankRelease os (if b then n else 0) 0 i ≡ releaseBy (refusal m (timer (release n i))) os i
+      unfolding bankRelease refusal lines timerLines lowest absent view
+      freed-by-bank true h = rw (owns h, sym is-there, h) refl
+      freed-by-bank false h = unfold isOwner releaseBy in rw (sym is-there, h) refl
+
+      freed-by-refusal : (k : ℕ) → withBank c (record { owner = releaseBy k os i .owners }) ≡ stored (outcome k m (timer (release n i)) .after)
+      unfolding releaseBy outcome changed tablesAfter deskAfter timerTables view
+      freed-by-refusal zero = with-timers (withReleased os i)
+      freed-by-refusal (suc k) = left-form c l
+
+      freed-answered : (k : ℕ) → settled.doneOf (releaseBy k os i .answer .refusal) ≡ doneOf (outcome k m (timer (release n i)) .answer)
+      unfolding releaseBy outcome answer timerAnswer doneOf
+      freed-answered zero = refl
+      freed-answered (suc k) = rw (ne-eqb (suc k) 0 (λ z. omega arith)) refl
+
+      pub releases : {owner : ℕ} {a : Done} {b : Bank} → owner ≡ (if there then n else 0) → Releases (c .bank) owner i a b
+          → _≡_ {A = Changed} (record { card = withBank c b; answer = a }) (changedBy (step m (timer (release n i))))
+      unfolding step
+      releases {owner} {a} {b} o e =
+          let k = refusal m (timer (release n i)) in
+          let same : bankRelease os owner 0 i ≡ releaseBy k os i = ap (λ (z : ℕ). bankRelease os z 0 i) o ∙ freed-by-bank there refl in
+          changes (step m (timer (release n i)))
+          (ap (withBank c) (settled.releases-owners (c .bank) owner i 0 a b e ∙ ap (λ (x : BankOutcome). record { owner = x .owners }) same) ∙ freed-by-refusal k)
+          (settled.releases-answer (c .bank) owner i 0 a b e ∙ ap (λ (x : BankOutcome). settled.doneOf (x .answer .refusal)) same ∙ freed-answered k)

@@ -1,0 +1,44 @@
+use mathlib.Core.Path.{sym}
+use lib.Seq.{length-take-le}
+use Rattle.card.proofs.Handed.{title-most, menu-wrote}
+use borrow.Author.Needs.{needs}
+use Rattle.card.proofs.handing.put_menu.Statement.{statement}
+use Rattle.card.proofs.handing.put_menu.Tie as tie
+use Rattle.card.proofs.handing.put_menu.Reads as reads
+use Rattle.card.proofs.handing.put_menu.Lts as lts
+use Rattle.command.proofs.write_menu.Reads as write-menu-reads
+
+-- src/handing.rt:43:30
+array-share-prefix-title : tie.Need-array-share-prefix-title
+array-share-prefix-title c = search needs
+
+-- src/handing.rt:43:30
+slice-aggregate-write-menu : tie.Need-slice-aggregate-write-menu
+slice-aggregate-write-menu c = sym (length-take-le _ _ (search needs))
+
+-- src/handing.rt:43:5
+write-menu-requires : tie.Need-write-menu-requires
+write-menu-requires c κs =
+    let s = c .before .before .before in
+    (s .pre .0, title-most _ _ (s .pre .1), s .pre .2)
+
+-- src/handing.rt:38:1
+same-length : tie.Need-same-length
+same-length c = search needs
+
+-- src/handing.rt:38:1
+returns : tie.Need-returns
+returns c =
+    let w = c .before .before in
+    let s = w .before .before .before .before in
+    menu-wrote _ (s .pre .0) _ _ (title-most _ _ (s .pre .1)) (w .write-menu .ensures)
+
+pub put-menu-spec : {M : Type 1} → statement M
+put-menu-spec =
+    tie.close
+    (tie.spec
+    array-share-prefix-title
+    slice-aggregate-write-menu
+    write-menu-requires
+    same-length
+    returns)

@@ -1,0 +1,30 @@
+use Rattle.lists.proofs.Picks.{picks}
+use borrow.Author.Needs.{needs}
+use Rattle.card.proofs.registering.owner_after.Statement.{statement}
+use Rattle.card.proofs.registering.owner_after.Tie as tie
+use Rattle.card.proofs.registering.owner_after.Reads as reads
+use Rattle.card.proofs.registering.owner_after.Lts as lts
+use Rattle.timers.proofs.forgotten.Reads as forgotten-reads
+
+-- src/registering.rt:71:17
+returns : tie.Need-returns
+returns c = search (picks, needs) depth 8
+
+-- src/registering.rt:73:13
+forgotten-requires : tie.Need-forgotten-requires
+forgotten-requires c κs = search needs
+
+-- src/registering.rt:73:13
+returns-2 : tie.Need-returns-2
+returns-2 c = search (picks, needs) depth 8
+
+-- src/registering.rt:75:9
+returns-3 : tie.Need-returns-3
+returns-3 c = search (picks, needs) depth 8
+
+-- src/registering.rt:65:1
+returns-4 : tie.Need-returns-4
+returns-4 c = search (picks, needs) depth 8
+
+pub owner-after-spec : {M : Type 1} → statement M
+owner-after-spec = tie.close (tie.spec returns forgotten-requires returns-2 returns-3 returns-4)

@@ -1,0 +1,99 @@
+// The calls that lock and unlock an applet. Each has one way through: a refused call stores what was there.
+use crate::Card;
+use crate::Changed;
+use crate::done_of;
+use crate::due_after;
+use rules::Rows;
+ghost use mathlib.Core.Path.{_≡_};
+ghost use mathlib.Core.Bool.{not, Bool·beq, _&&_};
+ghost use Rattle.lists.specs.Tests.{if_then_else_};
+ghost use Rattle.rules.specs.Held.{viewRows, TidyRows};
+ghost use Rattle.rules.specs.Calls.{admin, lock, unlock};
+ghost use Rattle.rules.specs.Step.{step};
+ghost use Rattle.sets.specs.Sets.{has?, turnedSet};
+ghost use Rattle.screen.specs.Asked.{hasEnabledRow};
+ghost use Rattle.card.specs.View.{view, Left};
+ghost use Rattle.card.specs.Reply.{changedBy};
+
+// The refusal where there is no such applet.
+pub fn absent_refusal(there: bool) -> u8
+    ensures { λ r. ⌜ r ≡ (if not there then 2 else 0) ⌝ }
+{
+    if there {
+        return 0;
+    }
+    2
+}
+
+// The set of the selectable applets after the call.
+fn locks_after(there: bool, set: u8, applet: u8, on: bool) -> u8
+    ensures { λ r. ⌜ r ≡ (if there then turnedSet set applet on else set) ⌝ }
+{
+    if there {
+        return sets::turned(set, applet, on);
+    }
+    set
+}
+
+// Whether the shown menu changes: the lock turns, and the applet has an enabled row.
+pub fn menu_turns(there: bool, set: u8, applet: u8, on: bool, rows: Rows) -> bool
+    requires { ⌜ TidyRows rows ⌝ }
+    ensures { λ r. ⌜ r ≡ (there && (not (Bool·beq (has? set applet) on) && hasEnabledRow applet (viewRows rows))) ⌝ }
+{
+    if there {
+        let was = sets::has(set, applet);
+        if was == on {
+            return false;
+        }
+        return screen::has_enabled_row(rows, applet);
+    }
+    false
+}
+
+impl Card {
+    // Locks an applet: it is not called until it is unlocked.
+    pub fn lock(self, applet: u8) -> Changed
+        requires { ⌜ Left self ⌝ }
+        ensures { λ r. ⌜ r ≡ changedBy (step (view self) (admin (lock applet))) ⌝ }
+    {
+        let mut left = self;
+        let there = sets::has(left.roll.present, applet);
+        let was = left.selectable;
+        let is = locks_after(there, was, applet, false);
+        let rows = left.rows;
+        let menu = menu_turns(there, was, applet, false, rows);
+        let registered = left.registered;
+        let events = downloads::codes_turn(registered, was, is);
+        let menu_due = due_after(left.desk.session, left.desk.due.menu, menu);
+        let events_due = due_after(left.desk.session, left.desk.due.events, events);
+        left.selectable = is;
+        left.desk.due.menu = menu_due;
+        left.desk.due.events = events_due;
+        let refusal = absent_refusal(there);
+        let answer = done_of(refusal);
+        Changed { card: left, answer }
+    }
+
+    // Makes an applet selectable again.
+    pub fn unlock(self, applet: u8) -> Changed
+        requires { ⌜ Left self ⌝ }
+        ensures { λ r. ⌜ r ≡ changedBy (step (view self) (admin (unlock applet))) ⌝ }
+    {
+        let mut left = self;
+        let there = sets::has(left.roll.present, applet);
+        let was = left.selectable;
+        let is = locks_after(there, was, applet, true);
+        let rows = left.rows;
+        let menu = menu_turns(there, was, applet, true, rows);
+        let registered = left.registered;
+        let events = downloads::codes_turn(registered, was, is);
+        let menu_due = due_after(left.desk.session, left.desk.due.menu, menu);
+        let events_due = due_after(left.desk.session, left.desk.due.events, events);
+        left.selectable = is;
+        left.desk.due.menu = menu_due;
+        left.desk.due.events = events_due;
+        let refusal = absent_refusal(there);
+        let answer = done_of(refusal);
+        Changed { card: left, answer }
+    }
+}

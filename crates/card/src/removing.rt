@@ -1,0 +1,54 @@
+// The call that deletes an applet. It has one way out: a refused call stores nothing.
+use crate::Card;
+use crate::Changed;
+use crate::done_of;
+use crate::due_after;
+use crate::locking::absent_refusal;
+use crate::locking::menu_turns;
+ghost use mathlib.Core.Path.{_≡_};
+ghost use Rattle.rules.specs.Calls.{admin, delete};
+ghost use Rattle.rules.specs.Step.{step};
+ghost use Rattle.card.specs.View.{view, Left};
+ghost use Rattle.card.specs.Reply.{changedBy};
+
+impl Card {
+    // Deletes an applet, with its rows, its timers and its registrations.
+    pub fn delete(self, applet: u8) -> Changed
+        requires { ⌜ Left self ⌝ }
+        ensures { λ r. ⌜ r ≡ changedBy (step (view self) (admin (delete applet))) ⌝ }
+    {
+        let mut left = self;
+        let there = sets::has(left.roll.present, applet);
+        if there {
+            let was = left.selectable;
+            let is = sets::turned(was, applet, false);
+            let rows = left.rows;
+            let registered = left.registered;
+            let roll = left.roll;
+            let made = left.made;
+            let bank = left.bank;
+            let menu = menu_turns(true, was, applet, false, rows);
+            let events = downloads::codes_turn(registered, was, is);
+            let menu_due = due_after(left.desk.session, left.desk.due.menu, menu);
+            let events_due = due_after(left.desk.session, left.desk.due.events, events);
+            let next_roll = applets::roll_without(roll, applet);
+            let next_registered = applets::unregistered(registered, applet);
+            let next_made = applets::made_with(made, applet, 0);
+            let next_bank = timers::freed(bank, applet);
+            let control = timers::forgotten(left.control, applet);
+            let next_rows = menu::without(rows, applet);
+            left.roll = next_roll;
+            left.selectable = is;
+            left.registered = next_registered;
+            left.made = next_made;
+            left.control = control;
+            left.bank = next_bank;
+            left.desk.due.menu = menu_due;
+            left.desk.due.events = events_due;
+            left.rows = next_rows;
+        }
+        let refusal = absent_refusal(there);
+        let answer = done_of(refusal);
+        Changed { card: left, answer }
+    }
+}

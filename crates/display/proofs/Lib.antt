@@ -1,3 +1,0 @@
--- Laws of what is shown.
-pub mod Showing
-pub mod Promise

@@ -1,2 +1,0 @@
--- What is shown.
-pub mod Shows

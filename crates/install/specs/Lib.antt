@@ -1,2 +1,0 @@
--- The refusal of an install, from the applets present.
-pub mod Refuses

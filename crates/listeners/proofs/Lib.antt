@@ -1,2 +1,0 @@
--- Laws of the tests.
-pub mod Codes

@@ -1,2 +1,0 @@
--- Who listens to an event.
-pub mod Listens

@@ -1,2 +1,0 @@
--- One more applet behind those of a table.
-pub mod Newcomer

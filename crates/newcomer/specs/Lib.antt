@@ -1,2 +1,0 @@
--- The table with the newcomer.
-pub mod Joins

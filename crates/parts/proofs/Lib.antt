@@ -1,3 +1,0 @@
--- Laws of the parts.
-pub mod Calling
-pub mod Desks

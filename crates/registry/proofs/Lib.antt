@@ -1,3 +1,0 @@
--- Laws of the table of applets.
-pub mod Table
-pub mod Tidy

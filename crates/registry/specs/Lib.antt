@@ -1,2 +1,0 @@
--- What the look-up gives.
-pub mod Looks

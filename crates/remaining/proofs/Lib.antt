@@ -1,2 +1,0 @@
--- Loops over the table.
-pub mod Loops

@@ -1,0 +1,3 @@
+-- Laws of the sets.
+pub mod Bits
+pub mod LeftOut

@@ -1,0 +1,2 @@
+-- Sets of applet numbers as bits.
+pub mod Sets
