@@ -128,15 +128,16 @@ fn is_repeated(
 fn clashes(grants: [Grant; Roll::APPLETS], pairs: [Pair; Grant::ENTRIES]) -> bool
     ensures { λ r. ⌜ r ≡ repeats? (requested pairs) (taken grants) ⌝ }
 {
-    let mut any = false;
     let mut i = 0;
     while i < Grant::ENTRIES {
         let p = pairs[i];
         let is = is_repeated(grants, pairs, i + 1, p.identifier);
-        any = any | is;
+        if is {
+            return true;
+        }
         i += 1;
     }
-    any
+    false
 }
 
 // Whether one of the pairs requests an identifier over 127.

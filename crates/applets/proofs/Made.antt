@@ -13,7 +13,6 @@ use Rattle.lists.specs.Tables.{table}
 use Rattle.lists.proofs.Decided.{turned}
 use Rattle.lists.proofs.Padded.{get-padded}
 use Rattle.lists.proofs.Tables.{table-at, table-alike, table-set, table-list}
-use Rattle.rules.specs.declared.Pair.{Pair}
 use Rattle.rules.specs.Holds.{Applet, withOneMore}
 use Rattle.rules.specs.Applets.{hasNumber, entries}
 use Rattle.rules.specs.Rows.{noPair, nextPair}

@@ -2,14 +2,14 @@
 -- Assumes nothing.
 use Prim.Native.Nat.{ℕ, zero, suc, _-_, _≤_, _<_}
 use native.Mathlib.Omega.{arith}
-use mathlib.Core.Path.{_≡_, refl, sym, ap, ap₂, _∙_}
+use mathlib.Core.Path.{_≡_, refl, sym, ap, _∙_}
 use mathlib.Core.Logic.{_⊎_, inl, inr}
 use mathlib.Core.Bool.{Bool, true, false}
 use mathlib.Core.List.{List, [], _∷_, map}
 use lib.ListN.{getD, List·getD-eq-default}
 use borrow.Author.Tests.{ltb-true, ltb-false}
 use Rattle.lists.specs.Tests.{if_then_else_, _==_, _<?_}
-use Rattle.lists.specs.Lists.{Every, some?, first, change, count, sum}
+use Rattle.lists.specs.Lists.{Every, some?, change, count, sum}
 use Rattle.lists.specs.Tables.{table}
 use Rattle.lists.proofs.Decided.{clashing}
 use Rattle.lists.proofs.Every.{every-so, every-both, every-fails, every-first}

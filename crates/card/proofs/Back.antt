@@ -3,23 +3,22 @@
 use Prim.Native.Nat.{ℕ, suc, _-_, _≤_, _<_}
 use native.Mathlib.Omega.{arith}
 use mathlib.Core.Path.{_≡_, refl, sym, ap, ap₂, _∙_}
-use mathlib.Core.Bool.{Bool, false}
+use mathlib.Core.Bool.{false}
 use mathlib.Core.List.{List, [], _∷_, map}
 use lib.ListN.{length, take, getD}
-use Rattle.lists.specs.Lists.{Every, first, padded}
+use Rattle.lists.specs.Lists.{Every, padded}
 use Rattle.lists.proofs.Every.{every-so, every-both}
-use Rattle.lists.proofs.Keyed.{keys-map, first-map}
 use Rattle.lists.proofs.Mapped.{map-length}
 use Rattle.lists.proofs.Padded.{take-padded}
-use Rattle.sets.specs.Sets.{setOf, has?}
+use Rattle.sets.specs.Sets.{has?}
 use Rattle.lists.specs.Tables.{table}
 use Rattle.sets.proofs.Bits.{has-set}
 use Rattle.lists.proofs.Tables.{table-at, table-alike, table-list}
 use Rattle.rules.specs.Holds.{Applet, Bounds, Tables, Model, document}
-use Rattle.rules.specs.Applets.{hasNumber, nobody, applet}
+use Rattle.rules.specs.Applets.{nobody, applet}
 use Rattle.rules.specs.Rows.{noPair}
 use Rattle.rules.proofs.Held.{rows-back, desk-back}
-use Rattle.runs.specs.Sound.{SoundApplet, SoundTables, Sound}
+use Rattle.runs.specs.Sound.{SoundApplet, Sound}
 use Rattle.runs.proofs.Looked.{each-found}
 use Rattle.applets.specs.ByNumber.{at, grantOf, appletBy, rollOf, selectableSet, registeredSet, madeTable}
 use Rattle.applets.proofs.Numbers.{by-number}

@@ -8,7 +8,7 @@ use mathlib.Core.List.{List, [], _∷_, _++_}
 use lib.ListN.{length, take, drop, length-append, length-take}
 use borrow.Author.Tests.{ne-eqb, eqb-true}
 use Rattle.lists.specs.Tests.{if_then_else_, _==_, _<?_}
-use Rattle.lists.specs.Lists.{Every, keep}
+use Rattle.lists.specs.Lists.{keep}
 use Rattle.lists.specs.Wrote.{Wrote, putAt}
 use Rattle.lists.proofs.Decided.{both, clashing}
 use Rattle.lists.proofs.Every.{every-so}

@@ -1,16 +1,18 @@
 -- What lock and unlock leave of the card.
 -- Assumes nothing.
-use Prim.Native.Nat.{ℕ, _≤_}
+use Prim.Native.Nat.{ℕ, _≤_, _<_}
 use native.Mathlib.Omega.{arith}
 use mathlib.Core.Path.{_≡_, refl, sym, ap, ap₂, _∙_}
 use mathlib.Core.Bool.{Bool, true, false, not, Bool·beq, _&&_, _||_}
 use mathlib.Core.List.{List}
 use Rattle.lists.specs.Tests.{if_then_else_, _==_}
 use Rattle.lists.specs.Lists.{some?, change}
-use Rattle.lists.proofs.Decided.{turned}
+use borrow.Author.Tests.{eqb-true}
+use Rattle.lists.proofs.Decided.{turned, clashing}
+use Rattle.lists.proofs.Truth.{and-left}
 use Rattle.lists.proofs.Tables.{table-alike}
 use Rattle.sets.specs.Sets.{has?, meets, turnedSet}
-use Rattle.sets.proofs.Bits.{set-alike}
+use Rattle.sets.proofs.Bits.{set-alike, set-has, set-lt}
 use Rattle.rules.specs.declared.Done.{Done}
 use Rattle.rules.specs.Holds.{Applet, Bounds, Tables, Model, withApplets, withSelectable}
 use Rattle.rules.specs.Held.{viewRows}
@@ -33,7 +35,7 @@ use Rattle.card.specs.View.{view, stored, Left}
 use Rattle.card.specs.Reply.{changedBy, doneOf}
 use Rattle.card.proofs.Left.{left-sound, left-bounds}
 use Rattle.card.proofs.Reply.{changes, tablesBy, after-by, answer-by, next-card, selectable-form, registered-form, control-form}
-use Rattle.card.proofs.Marks.{withDue}
+use Rattle.card.proofs.Marks.{withDue, unmarked}
 use Rattle.card.proofs.Present.{present-by, selectable-has, menu-same, events-none}
 use Rattle.card.proofs.Listeners.{set-is, codes-by}
 
@@ -87,6 +89,24 @@ module _ (c : Card) (left : Left c) (n : ℕ) (on : Bool) (there : present (view
       let eight : t .bounds .applets ≡ 8 = ap (λ (b : Bounds). b .applets) (left-bounds c left) in
       ap (λ (b : Bool). not (Bool·beq b on) && hasEnabledRow n (t .rows)) (selectable-has c left n (number-from t sound n there) (omega (arith, number-to t sound n there)))
       ∙ sym (lock-menu t (sound .numbers-apart) n on there)
+
+-- a set with a number that is in it, or without one that is not, is the same set
+already : (s n : ℕ) (on : Bool) → s < 256 → has? s n ≡ on → turnedSet s n on ≡ s
+already s n on small h = set-alike _ _ (λ k a b. go k (k == n) refl) ∙ sym (set-has s small)
+  where
+    go : (k : ℕ) (b : Bool) → (k == n) ≡ b → (if b then on else has? s k) ≡ has? s k
+    go k true e = sym h ∙ ap (has? s) (sym (eqb-true k n e))
+    go k false e = refl
+
+alike : (a b : Bool) → Bool·beq a b ≡ true → a ≡ b
+alike true true e = refl
+alike true false e = clashing e refl
+alike false true e = clashing e refl
+alike false false e = refl
+
+small : (c : Card) → Left c → c .selectable < 256
+unfolding selectableSet
+small c left = rw (selectable-form c left) (set-lt _)
 
 -- LOCK AND UNLOCK, by what the parts of the code say
 module _ (c : Card) (left : Left c) (n : ℕ) (on : Bool) {there : Bool} (found : there ≡ has? (c .roll .present) n) {r : ℕ} (refused : r ≡ (if not there then 2 else 0)) where
@@ -163,7 +183,7 @@ module _ (c : Card) (left : Left c) (n : ℕ) (on : Bool) {there : Bool} (found 
       card-after true h = when-there h
       card-after false h = when-absent h
 
-      pub turns-lock : {a : Done} → a ≡ doneOf (only r)
+      turns-lock : {a : Done} → a ≡ doneOf (only r)
           → _≡_ {A = Changed}
           (record {
             card = record { roll = c .roll; selectable = s; registered = c .registered; made = c .made; control = c .control; rows = c .rows; bank = c .bank; desk = withDue (c .desk) x y };
@@ -173,3 +193,44 @@ module _ (c : Card) (left : Left c) (n : ℕ) (on : Bool) {there : Bool} (found 
       turns-lock e =
           changes (step m (admin (locking on n))) (card-after there refl ∙ ap stored (sym (after-by m (admin (locking on n)) refusal-is still)))
           (e ∙ ap doneOf (sym (answer-by m (admin (locking on n)) refusal-is plain)))
+
+  -- the lock turns
+  pub lock-turned
+      : {k : Card} {s : ℕ} {menu events x y : Bool} {a : Done}
+      → (there && not (Bool·beq (has? (c .selectable) n) on)) ≡ true
+      → s ≡ turnedSet (c .selectable) n on
+      → menu ≡ (there && (not (Bool·beq (has? (c .selectable) n) on) && hasEnabledRow n (viewRows (c .rows))))
+      → events ≡ anyCode (codeTurns (c .registered) (c .selectable) s)
+      → x ≡ (c .desk .session && menu || c .desk .due .menu)
+      → y ≡ (c .desk .session && events || c .desk .due .events)
+      → k ≡ record { roll = c .roll; selectable = s; registered = c .registered; made = c .made; control = c .control; rows = c .rows; bank = c .bank; desk = withDue (c .desk) x y }
+      → a ≡ doneOf (only r)
+      → _≡_ {A = Changed} (record { card = k; answer = a }) (changedBy (step m (admin (locking on n))))
+  lock-turned {a = a} turns sets mv ev mx my is e =
+      let here = and-left there (not (Bool·beq (has? (c .selectable) n) on)) turns in
+      ap (λ (k : Card). record { card = k; answer = a }) is
+      ∙ turns-lock (sets ∙ sym (ap (λ (b : Bool). if b then turnedSet (c .selectable) n on else c .selectable) here)) mv ev mx my e
+
+  -- it does not: the applet is not there, or so already
+  pub lock-still
+      : {k : Card} {a : Done}
+      → (there && not (Bool·beq (has? (c .selectable) n) on)) ≡ false
+      → k ≡ c
+      → a ≡ doneOf (only r)
+      → _≡_ {A = Changed} (record { card = k; answer = a }) (changedBy (step m (admin (locking on n))))
+  lock-still {a = a} still is e =
+      ap (λ (k : Card). record { card = k; answer = a }) is
+      ∙ turns-lock (kept there (Bool·beq (has? (c .selectable) n) on) refl still)
+      (none there (not (Bool·beq (has? (c .selectable) n) on)) (hasEnabledRow n (viewRows (c .rows))) still)
+      (no-turn (c .registered) (c .selectable) (c .selectable) refl)
+      (unmarked (c .desk .session) (c .desk .due .menu)) (unmarked (c .desk .session) (c .desk .due .events)) e
+    where
+      none : (a b h : Bool) → (a && b) ≡ false → false ≡ (a && (b && h))
+      none true true h z = clashing refl z
+      none true false h z = refl
+      none false b h z = refl
+
+      kept : (t b : Bool) → Bool·beq (has? (c .selectable) n) on ≡ b → (t && not b) ≡ false → c .selectable ≡ (if t then turnedSet (c .selectable) n on else c .selectable)
+      kept true true q z = sym (already (c .selectable) n on (small c left) (alike (has? (c .selectable) n) on q))
+      kept true false q z = clashing refl z
+      kept false b q z = refl

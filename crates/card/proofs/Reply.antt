@@ -3,11 +3,10 @@
 use Prim.Native.Nat.{ℕ, zero, suc}
 use native.Mathlib.Omega.{arith}
 use mathlib.Core.Path.{_≡_, refl, sym, ap, _∙_}
-use mathlib.Core.Bool.{Bool, true, false, _&&_, _||_}
-use mathlib.Core.List.{List, map}
+use mathlib.Core.Bool.{Bool, _&&_, _||_}
+use mathlib.Core.List.{List}
 use borrow.Author.Tests.{ne-eqb}
 use Rattle.lists.specs.Tests.{if_then_else_, _==_}
-use Rattle.lists.proofs.Truth.{or-false}
 use Rattle.lists.specs.Tables.{table}
 use Rattle.rules.specs.declared.Done.{Done}
 use Rattle.rules.specs.declared.Given.{Given}
@@ -18,7 +17,7 @@ use Rattle.rules.specs.declared.Bank.{Bank}
 use Rattle.rules.specs.declared.Desk as held-desk
 use Rattle.rules.specs.Holds.{Tables, Desk, Model}
 use Rattle.rules.specs.Held.{storedRows, storedDesk}
-use Rattle.rules.specs.Calls.{Call, Outcome, Answer, only}
+use Rattle.rules.specs.Calls.{Call, Outcome, only}
 use Rattle.rules.specs.Refusals.{refusal}
 use Rattle.rules.specs.Desk.{marked, menuChanges, eventsChange}
 use Rattle.rules.specs.Step.{changed, tablesAfter, deskAfter, answer, outcome, step}

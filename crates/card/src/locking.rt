@@ -1,4 +1,4 @@
-// The calls that lock and unlock an applet. Each has one way through: a refused call stores what was there.
+// The calls that lock and unlock an applet. Each has one way out: a call that turns nothing stores nothing.
 use crate::Card;
 use crate::Changed;
 use crate::done_of;
@@ -10,7 +10,7 @@ ghost use Rattle.lists.specs.Tests.{if_then_else_};
 ghost use Rattle.rules.specs.Held.{viewRows, TidyRows};
 ghost use Rattle.rules.specs.Calls.{admin, lock, unlock};
 ghost use Rattle.rules.specs.Step.{step};
-ghost use Rattle.sets.specs.Sets.{has?, turnedSet};
+ghost use Rattle.sets.specs.Sets.{has?};
 ghost use Rattle.screen.specs.Asked.{hasEnabledRow};
 ghost use Rattle.card.specs.View.{view, Left};
 ghost use Rattle.card.specs.Reply.{changedBy};
@@ -25,14 +25,15 @@ pub fn absent_refusal(there: bool) -> u8
     2
 }
 
-// The set of the selectable applets after the call.
-fn locks_after(there: bool, set: u8, applet: u8, on: bool) -> u8
-    ensures { λ r. ⌜ r ≡ (if there then turnedSet set applet on else set) ⌝ }
+// Whether the lock turns: the applet is there, and not so already.
+fn lock_turns(there: bool, set: u8, applet: u8, on: bool) -> bool
+    ensures { λ r. ⌜ r ≡ (there && not (Bool·beq (has? set applet) on)) ⌝ }
 {
     if there {
-        return sets::turned(set, applet, on);
+        let was = sets::has(set, applet);
+        return was != on;
     }
-    set
+    false
 }
 
 // Whether the shown menu changes: the lock turns, and the applet has an enabled row.
@@ -59,16 +60,19 @@ impl Card {
         let mut left = self;
         let there = sets::has(left.roll.present, applet);
         let was = left.selectable;
-        let is = locks_after(there, was, applet, false);
-        let rows = left.rows;
-        let menu = menu_turns(there, was, applet, false, rows);
-        let registered = left.registered;
-        let events = downloads::codes_turn(registered, was, is);
-        let menu_due = due_after(left.desk.session, left.desk.due.menu, menu);
-        let events_due = due_after(left.desk.session, left.desk.due.events, events);
-        left.selectable = is;
-        left.desk.due.menu = menu_due;
-        left.desk.due.events = events_due;
+        let turns = lock_turns(there, was, applet, false);
+        if turns {
+            let is = sets::turned(was, applet, false);
+            let rows = left.rows;
+            let menu = menu_turns(there, was, applet, false, rows);
+            let registered = left.registered;
+            let events = downloads::codes_turn(registered, was, is);
+            let menu_due = due_after(left.desk.session, left.desk.due.menu, menu);
+            let events_due = due_after(left.desk.session, left.desk.due.events, events);
+            left.selectable = is;
+            left.desk.due.menu = menu_due;
+            left.desk.due.events = events_due;
+        }
         let refusal = absent_refusal(there);
         let answer = done_of(refusal);
         Changed { card: left, answer }
@@ -82,16 +86,19 @@ impl Card {
         let mut left = self;
         let there = sets::has(left.roll.present, applet);
         let was = left.selectable;
-        let is = locks_after(there, was, applet, true);
-        let rows = left.rows;
-        let menu = menu_turns(there, was, applet, true, rows);
-        let registered = left.registered;
-        let events = downloads::codes_turn(registered, was, is);
-        let menu_due = due_after(left.desk.session, left.desk.due.menu, menu);
-        let events_due = due_after(left.desk.session, left.desk.due.events, events);
-        left.selectable = is;
-        left.desk.due.menu = menu_due;
-        left.desk.due.events = events_due;
+        let turns = lock_turns(there, was, applet, true);
+        if turns {
+            let is = sets::turned(was, applet, true);
+            let rows = left.rows;
+            let menu = menu_turns(there, was, applet, true, rows);
+            let registered = left.registered;
+            let events = downloads::codes_turn(registered, was, is);
+            let menu_due = due_after(left.desk.session, left.desk.due.menu, menu);
+            let events_due = due_after(left.desk.session, left.desk.due.events, events);
+            left.selectable = is;
+            left.desk.due.menu = menu_due;
+            left.desk.due.events = events_due;
+        }
         let refusal = absent_refusal(there);
         let answer = done_of(refusal);
         Changed { card: left, answer }

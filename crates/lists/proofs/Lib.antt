@@ -5,7 +5,6 @@ pub mod Keep
 pub mod Search
 pub mod Mapped
 pub mod Truth
-pub mod One
 pub mod Alike
 pub mod Decided
 pub mod Every

@@ -11,11 +11,6 @@ use lib.Seq.{getD-set-same, getD-set-other}
 use borrow.Author.Tests.{eqb-true, eqb-false}
 use Rattle.lists.specs.Tests.{if_then_else_, _==_}
 
-pub set-past : {A : Type 0} (l : List A) (i : ℕ) (x : A) → length l ≤ i → set l i x ≡ l
-set-past [] i x h = refl
-set-past (y ∷ l) zero x h = absurd (not-suc-le-zero h)
-set-past {A} (y ∷ l) (suc i) x h = ap (λ (k : List A). y ∷ k) (set-past l i x (le-of-suc-le-suc h))
-
 module _ {A : Type 0} (d : A) where
   pub set-held : (l : List A) (i : ℕ) → set l i (getD l i d) ≡ l
   set-held [] i = refl

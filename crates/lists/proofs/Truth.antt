@@ -29,12 +29,6 @@ pub or-false : (a : Bool) → (a || false) ≡ a
 or-false true = refl
 or-false false = refl
 
-pub or-swap : (a b c : Bool) → (a || (b || c)) ≡ (b || (a || c))
-or-swap true true c = refl
-or-swap true false c = refl
-or-swap false true c = refl
-or-swap false false c = refl
-
 pub beq-self : (a : Bool) → Bool·beq a a ≡ true
 beq-self true = refl
 beq-self false = refl

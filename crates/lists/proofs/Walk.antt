@@ -24,14 +24,6 @@ module _ {A : Type 0} where
   take-taken (suc n) (x ∷ l) = ap (λ (r : List A). x ∷ r) (take-taken n l)
 
   module _ (p : A → Bool) where
-    pub some-pass : (l : List A) (i : ℕ) (d : A) → i < length l → p (getD l i d) ≡ false → some? p (drop i l) ≡ some? p (drop (i + 1) l)
-    unfolding some?
-    some-pass l i d h e = rw (drop-step l i d h, e) refl
-
-    pub some-here : (l : List A) (i : ℕ) (d : A) → i < length l → p (getD l i d) ≡ true → some? p (drop i l) ≡ true
-    unfolding some?
-    some-here l i d h e = rw (drop-step l i d h, e) refl
-
     pub some-end : (l : List A) (i : ℕ) → length l ≤ i → some? p (drop i l) ≡ false
     unfolding some?
     some-end l i h = rw (drop-of-length-le l h) refl

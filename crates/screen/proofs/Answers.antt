@@ -19,7 +19,7 @@ use Rattle.rules.specs.declared.Rows.{Rows}
 use Rattle.rules.specs.Holds.{Row}
 use Rattle.rules.specs.Held.{viewRow, storedRow, viewRows, noRow, TidyRows}
 use Rattle.menu.specs.Table.{TidyRow}
-use Rattle.menu.proofs.Tidy.{blank, row-back, tidy-row, text-within, at-is, long, some-viewed}
+use Rattle.menu.proofs.Tidy.{blank, row-back, text-within, at-is, long, some-viewed}
 use Rattle.screen.specs.Asked.{askedOwner, isEnabledOf, hasEnabledRow, hasShownRow, turnsText, turnsEnabled}
 
 abbrev pub askedAt : (identifier : ℕ) (help : Bool) → held.Row → Bool
@@ -83,9 +83,6 @@ other-length x text t h =
 
 -- a row found
 module _ (x : held.Row) (r : Row) (is : x ≡ storedRow r) where
-  pub found-tidy : TidyRow x
-  found-tidy = rw is (tidy-row r)
-
   enabled-is : {b : Bool} → x .enabled ≡ b → r .enabled ≡ b
   unfolding storedRow
   enabled-is e = sym (ap (λ (y : held.Row). y .enabled) is) ∙ e

@@ -1,6 +1,6 @@
 -- A set of the numbers 1 to 8 as a byte: its digits, lowest first, say of each number whether it is in the set.
 use Prim.Native.Nat.{ℕ, zero, suc, _+_, _*_, _/_, _%_}
-use mathlib.Core.Bool.{Bool, true, false, not, _&&_}
+use mathlib.Core.Bool.{Bool, false, not, _&&_}
 use mathlib.Core.List.{List, [], _∷_, map}
 use lib.ListN.{getD}
 use Rattle.lists.specs.Tests.{if_then_else_, _==_, _≤?_}

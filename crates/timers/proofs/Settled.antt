@@ -1,8 +1,7 @@
 -- What a timer call promises settles its answer and the bank: no second answer meets it, and a refusal leaves the bank as it was.
 -- Past a look-up that found the applet, the lines that are left are the card's. Assumes nothing.
 use mathlib.Core.Path.{_≡_, refl, sym, ap, _∙_}
-use mathlib.Core.Bool.{true}
-use mathlib.Core.List.{List, [], _∷_}
+use mathlib.Core.List.{List}
 use Prim.Native.Nat.{ℕ, zero, suc, _≤_}
 use native.Mathlib.Omega.{arith}
 use Rattle.rules.specs.declared.Bank.{Bank}
@@ -10,9 +9,8 @@ use Rattle.rules.specs.declared.Given.{Given}
 use Rattle.rules.specs.declared.Given.the-variants as given
 use Rattle.rules.specs.declared.Done.{Done}
 use Rattle.rules.specs.declared.Done.the-variants as done
-use Rattle.rules.specs.Timers.{isOwner, atLimit, noneFree, lowestFree, notItsTimer}
+use Rattle.rules.specs.Timers.{lowestFree}
 use Rattle.rules.specs.Calls.{Answer}
-use Rattle.rules.specs.Refusals.{line, lowest}
 use Rattle.rules.specs.Beside.{BankOutcome, bankAllocate, allocateBy, bankRelease, releaseBy}
 use Rattle.rules.specs.Papers.{paperGiven, paperDone}
 use Rattle.timers.specs.Promises.{Allocates, Releases, Numbered}
@@ -88,13 +86,3 @@ module _ (b : Bank) (n t : ℕ) where
   pub releases-refused : (k : ℕ) (c : Bank) → Releases b n t (done.Refused k) c → c ≡ b
   unfolding bankRelease
   releases-refused k c h = ap (λ (os : List ℕ). record { owner = os }) (unfreed-same _ (b .owner) t k c (h .0 0) (h .1))
-
--- Of an applet's own number the line 2 does not hold.
-pub allocate-lines : (os : List ℕ) (n limit : ℕ) → isOwner n ≡ true
-    → bankAllocate os n limit ≡ allocateBy (lowest (line 13 (atLimit os n limit) ∷ line 14 (noneFree os) ∷ [])) os n
-unfolding bankAllocate lowest
-allocate-lines os n limit h = rw h refl
-
-pub release-lines : (os : List ℕ) (n limit t : ℕ) → isOwner n ≡ true → bankRelease os n limit t ≡ releaseBy (lowest (line 15 (notItsTimer os n t) ∷ [])) os t
-unfolding bankRelease lowest
-release-lines os n limit t h = rw h refl

@@ -1,3 +1,5 @@
+-- `done_of` meets its contract.
+-- Assumes nothing.
 use Rattle.lists.proofs.Picks.{picks}
 use Rattle.card.specs.Reply.{doneOf}
 use borrow.Author.Needs.{needs}
@@ -6,12 +8,10 @@ use Rattle.card.proofs.done_of.Tie as tie
 use Rattle.card.proofs.done_of.Reads as reads
 use Rattle.card.proofs.done_of.Lts as lts
 
--- src/lib.rt:59:9
 returns : tie.Need-returns
 unfolding doneOf
 returns c = search (picks, needs) depth 8
 
--- src/lib.rt:55:1
 returns-2 : tie.Need-returns-2
 unfolding doneOf
 returns-2 c = search (picks, needs) depth 8

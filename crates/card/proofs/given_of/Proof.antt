@@ -1,3 +1,5 @@
+-- `given_of` meets its contract.
+-- Assumes nothing.
 use mathlib.Core.Path.{refl}
 use borrow.Author.Tests.{ne-eqb}
 use Rattle.card.specs.Reply.{givenOf}
@@ -6,12 +8,10 @@ use Rattle.card.proofs.given_of.Tie as tie
 use Rattle.card.proofs.given_of.Reads as reads
 use Rattle.card.proofs.given_of.Lts as lts
 
--- src/lib.rt:74:9
 returns : tie.Need-returns
 unfolding givenOf
 returns c = rw (c .if1 .taken) refl
 
--- src/lib.rt:70:1
 returns-2 : tie.Need-returns-2
 unfolding givenOf
 returns-2 c = let other = ne-eqb _ 0 (c .if1 .left) in rw other (rw other refl)

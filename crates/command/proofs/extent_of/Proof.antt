@@ -25,38 +25,30 @@ Inv-loop selectable rows count bytes₀ help₀ i₀ bytes help i = (i ≤ count
 abbrev μ-loop : tie.MeasureT-loop
 μ-loop selectable rows count bytes₀ help₀ i₀ bytes help i = count - i
 
--- src/lib.rt:50:17
 cast-count : tie.Need-cast-count Inv-loop μ-loop
 cast-count c = search needs
 
--- src/lib.rt:54:5
 loop-holds : tie.Need-loop-holds Inv-loop μ-loop
 loop-holds c = (search needs, λ fits. measured-none _ fits _)
 
--- src/lib.rt:55:19
 mul-row : tie.Need-mul-row Inv-loop μ-loop
 mul-row c = search needs
 
--- src/lib.rt:55:19
 element-copy-out-row : tie.Need-element-copy-out-row Inv-loop μ-loop
 element-copy-out-row c = let l = long _ (c .before .before .pre .tidy) in omega arith
 
--- src/lib.rt:56:13
 is-shown-requires : tie.Need-is-shown-requires Inv-loop μ-loop
 is-shown-requires c κs = search needs
 
--- src/lib.rt:58:26
 cast-bytes : tie.Need-cast-bytes Inv-loop μ-loop
 cast-bytes c = search needs
 
--- src/lib.rt:58:22
 add-bytes : tie.Need-add-bytes Inv-loop μ-loop
 add-bytes c =
     let b = c .before .before .before .before .before in
     let h = len-at (b .before .args .t1) (b .before .pre) (b .loop .i) (search needs) in
     omega arith
 
--- src/lib.rt:58:13
 add-bytes-2 : tie.Need-add-bytes-2 Inv-loop μ-loop
 add-bytes-2 c =
     let b = c .before .before .before .before .before in
@@ -67,15 +59,12 @@ add-bytes-2 c =
     let m = b .loop .inv .1 (b .before .pre) .size in
     omega arith
 
--- src/lib.rt:61:9
 add-i : tie.Need-add-i Inv-loop μ-loop
 add-i c = search needs
 
--- src/lib.rt:54:5
 loop-less : tie.Need-loop-less Inv-loop μ-loop
 loop-less c = search needs
 
--- src/lib.rt:54:5
 loop-again : tie.Need-loop-again Inv-loop μ-loop
 loop-again c =
     let b = c .before .before .before .before in
@@ -85,7 +74,6 @@ loop-again c =
     (λ w. (search needs, λ fits. rw (w .1, w .2) (measured-no _ fits _ (b .loop .i) (search needs) (is ∙ w .0 .left) (b .loop .inv .1 fits))))
     (c .if1 .came)
 
--- src/lib.rt:46:1
 returns : tie.Need-returns Inv-loop μ-loop
 returns c =
     let b = c .before in

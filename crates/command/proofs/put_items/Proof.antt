@@ -8,22 +8,18 @@ use Rattle.command.proofs.put_items.Lts as lts
 use Rattle.command.proofs.put_rows.Reads as put-rows-reads
 use Rattle.writing.proofs.put.Reads as put-reads
 
--- src/lib.rt:94:38
 slice-aggregate-put : tie.Need-slice-aggregate-put
 slice-aggregate-put c = search needs
 
--- src/lib.rt:94:9
 put-requires : tie.Need-put-requires
 put-requires c κs =
     let i = c .before .before in
     let s = i .before .before in
     room-no-row _ (s .pre .1) (s .args .at) (s .pre .2) (i .if1 .taken)
 
--- src/lib.rt:94:9
 same-length : tie.Need-same-length
 same-length c = search needs
 
--- src/lib.rt:94:9
 returns : tie.Need-returns
 returns c =
     let p = c .before .before in
@@ -31,18 +27,15 @@ returns c =
     let s = i .before .before in
     wrote-no-row _ (s .pre .1) (i .if1 .taken) (p .put .ensures)
 
--- src/lib.rt:96:5
 put-rows-requires : tie.Need-put-rows-requires
 put-rows-requires c κs =
     let i = c .before in
     let s = i .before .before in
     (s .pre .0, room-rows _ (s .pre .1) (s .args .at) (s .pre .2) (i .if1 .left))
 
--- src/lib.rt:88:1
 same-length-2 : tie.Need-same-length-2
 same-length-2 c = search needs
 
--- src/lib.rt:88:1
 returns-2 : tie.Need-returns-2
 returns-2 c =
     let p = c .before .before in

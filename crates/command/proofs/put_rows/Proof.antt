@@ -26,34 +26,27 @@ Inv-loop buf₀ at selectable rows count next₀ i₀ buf next i = (i ≤ count)
 abbrev μ-loop : tie.MeasureT-loop
 μ-loop buf₀ at selectable rows count next₀ i₀ buf next i = count - i
 
--- src/lib.rt:71:17
 cast-count : tie.Need-cast-count Inv-loop μ-loop
 cast-count c = search needs
 
--- src/lib.rt:74:5
 loop-holds : tie.Need-loop-holds Inv-loop μ-loop
 unfolding rowsBytes gather keep
 loop-holds c = (search needs, search needs, wrote-none _ _)
 
--- src/lib.rt:75:19
 mul-row : tie.Need-mul-row Inv-loop μ-loop
 mul-row c = search needs
 
--- src/lib.rt:75:19
 element-copy-out-row : tie.Need-element-copy-out-row Inv-loop μ-loop
 element-copy-out-row c =
     let l = long _ (c .before .before .before .pre .0 .tidy) in
     omega arith
 
--- src/lib.rt:76:13
 is-shown-requires : tie.Need-is-shown-requires Inv-loop μ-loop
 is-shown-requires c κs = search needs
 
--- src/lib.rt:79:21
 cast-n : tie.Need-cast-n Inv-loop μ-loop
 cast-n c = search needs
 
--- src/lib.rt:80:56
 array-share-prefix-text : tie.Need-array-share-prefix-text Inv-loop μ-loop
 array-share-prefix-text c =
     let b = c .before .before .before .before .before .before .before in
@@ -63,13 +56,11 @@ array-share-prefix-text c =
     let k = text-length s t (b .loop .i) (search needs) in
     omega arith
 
--- src/lib.rt:80:56
 slice-aggregate-put-item : tie.Need-slice-aggregate-put-item Inv-loop μ-loop
 slice-aggregate-put-item c =
     let b = c .before .before .before .before .before .before .before .before in
     sym (text-at (b .before .before .args .t3) (b .before .before .pre .0) (b .loop .i) (search needs))
 
--- src/lib.rt:80:13
 put-item-requires : tie.Need-put-item-requires Inv-loop μ-loop
 put-item-requires c κs =
     let i = c .before .before .before .before in
@@ -82,15 +73,12 @@ put-item-requires c κs =
     let p = rows-part (isShown (a .selectable)) (viewRows (a .t3)) (b .loop .i + 1) in
     (omega arith, omega (arith, b .loop .inv .1, b .loop .inv .2 .next, b .before .before .pre .1))
 
--- src/lib.rt:82:9
 add-i : tie.Need-add-i Inv-loop μ-loop
 add-i c = search needs
 
--- src/lib.rt:74:5
 loop-less : tie.Need-loop-less Inv-loop μ-loop
 loop-less c = search needs
 
--- src/lib.rt:74:5
 loop-again : tie.Need-loop-again Inv-loop μ-loop
 loop-again c =
     let b = c .before .before .before .before in
@@ -104,11 +92,9 @@ loop-again c =
     (λ w. (search needs, ap length (w .1) ∙ b .loop .inv .1, rw (w .1, w .2, rows-same (a .t3) t (a .selectable) (b .loop .i) (search needs) (is ∙ w .0 .left)) v))
     (c .if1 .came)
 
--- src/lib.rt:67:1
 same-length : tie.Need-same-length Inv-loop μ-loop
 same-length c = search needs
 
--- src/lib.rt:67:1
 returns : tie.Need-returns Inv-loop μ-loop
 returns c =
     let b = c .before in

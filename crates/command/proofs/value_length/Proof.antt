@@ -7,23 +7,18 @@ use Rattle.command.proofs.value_length.Tie as tie
 use Rattle.command.proofs.value_length.Reads as reads
 use Rattle.command.proofs.value_length.Lts as lts
 
--- src/lib.rt:112:16
 add-result : tie.Need-add-result
 add-result c = search needs
 
--- src/lib.rt:112:9
 returns : tie.Need-returns
 returns c = rw (c .if1 .taken) (omega arith)
 
--- src/lib.rt:114:5
 add-result-2 : tie.Need-add-result-2
 add-result-2 c = search needs
 
--- src/lib.rt:114:5
 add-result-3 : tie.Need-add-result-3
 add-result-3 c = search needs
 
--- src/lib.rt:107:1
 returns-2 : tie.Need-returns-2
 returns-2 c = rw (ne-eqb _ 0 (c .if1 .left)) (omega arith)
 

@@ -16,17 +16,14 @@ use Rattle.command.proofs.qualifier.Reads as qualifier-reads
 use Rattle.command.proofs.value_length.Reads as value-length-reads
 use Rattle.writing.proofs.put.Reads as put-reads
 
--- src/lib.rt:123:9
 extent-of-requires : tie.Need-extent-of-requires
 extent-of-requires c κs = search needs
 
--- src/lib.rt:124:9
 value-length-requires : tie.Need-value-length-requires
 value-length-requires c κs =
     let s = c .before .before .before in
     (s .pre .1, omega (arith, c .extent-of .ensures .0, rows-under (s .args .rows) (s .pre .0) (s .args .selectable)))
 
--- src/lib.rt:125:9
 put-length-requires : tie.Need-put-length-requires
 put-length-requires c κs =
     let v = c .before in
@@ -35,26 +32,21 @@ put-length-requires c κs =
     let u = rows-under (s .args .rows) (s .pre .0) (s .args .selectable) in
     (value-under (x .extent-of .result .bytes) _ (v .value-length .ensures) (omega (arith, x .extent-of .ensures .0)) (s .pre .1), omega (arith, s .pre .2))
 
--- src/lib.rt:126:9
 qualifier-requires : tie.Need-qualifier-requires
 qualifier-requires c κs = search needs
 
--- src/lib.rt:127:65
 cast-t15 : tie.Need-cast-t15
 cast-t15 c = search needs
 
--- src/lib.rt:128:43
 slice-aggregate-put : tie.Need-slice-aggregate-put
 slice-aggregate-put c = search needs
 
--- src/lib.rt:128:9
 put-requires : tie.Need-put-requires
 put-requires c κs =
     let q = c .before .before .before .before .before in
     let s = q .before .before .before .before .before .before in
     room-head _ (s .pre .2) (q .put-length .ensures)
 
--- src/lib.rt:129:9
 put-requires-2 : tie.Need-put-requires-2
 put-requires-2 c κs =
     let p = c .before .before .before in
@@ -62,7 +54,6 @@ put-requires-2 c κs =
     let s = q .before .before .before .before .before .before in
     room-third _ (s .pre .2) (q .put-length .ensures) refl (p .put .ensures) (now (s .args .title)) (s .pre .1)
 
--- src/lib.rt:130:5
 put-items-requires : tie.Need-put-items-requires
 put-items-requires c κs =
     let r = c .before .before .before in
@@ -73,11 +64,9 @@ put-items-requires c κs =
     let u = rows-under (s .args .rows) (s .pre .0) (s .args .selectable) in
     (s .pre .0, x .extent-of .ensures .0, room-items _ (s .pre .2) (q .put-length .ensures) refl (p .put .ensures) (now (s .args .title)) (s .pre .1) _ u (r .put2 .ensures))
 
--- src/lib.rt:118:1
 same-length : tie.Need-same-length
 same-length c = search needs
 
--- src/lib.rt:118:1
 returns : tie.Need-returns
 returns c =
     let i = c .before .before in

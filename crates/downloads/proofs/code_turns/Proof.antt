@@ -1,3 +1,5 @@
+-- `code_turns` meets its contract.
+-- Assumes nothing.
 use mathlib.Core.Path.{ap₂}
 use mathlib.Core.Bool.{Bool, not, Bool·beq}
 use borrow.Author.Needs.{needs}
@@ -7,19 +9,15 @@ use Rattle.downloads.proofs.code_turns.Reads as reads
 use Rattle.downloads.proofs.code_turns.Lts as lts
 use Rattle.sets.proofs.meet.Reads as meet-reads
 
--- src/lib.rt:63:15
 array-read-set : tie.Need-array-read-set
 array-read-set c = search needs
 
--- src/lib.rt:64:9
 meet-requires : tie.Need-meet-requires
 meet-requires c κs = search needs
 
--- src/lib.rt:65:9
 meet-requires-2 : tie.Need-meet-requires-2
 meet-requires-2 c κs = search needs
 
--- src/lib.rt:58:1
 returns : tie.Need-returns
 returns c = ap₂ (λ (x y : Bool). not (Bool·beq x y)) (c .before .meet .ensures) (c .meet2 .ensures)
 

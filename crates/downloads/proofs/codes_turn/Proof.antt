@@ -1,3 +1,5 @@
+-- `codes_turn` meets its contract.
+-- Assumes nothing.
 use Prim.Native.Nat.{_-_}
 use native.Mathlib.Omega.{arith}
 use mathlib.Core.Path.{sym, _∙_}
@@ -5,7 +7,6 @@ use borrow.Author.Needs.{needs}
 use Rattle.downloads.proofs.Trying.{Trying, trying-none, trying-more, trying-hit, trying-all}
 use Rattle.downloads.specs.Turns.{codeTurns}
 use Rattle.downloads.proofs.Shown.{no-turn}
-use borrow.Author.Needs.{needs}
 use Rattle.downloads.proofs.codes_turn.Statement.{statement}
 use Rattle.downloads.proofs.codes_turn.Tie as tie
 use Rattle.downloads.proofs.codes_turn.Reads as reads
@@ -18,35 +19,27 @@ Inv-loop registered was is place₀ place = Trying (codeTurns registered was is)
 abbrev μ-loop : tie.MeasureT-loop
 μ-loop registered was is place₀ place = 18 - place
 
--- src/lib.rt:74:9
 returns : tie.Need-returns Inv-loop μ-loop
 returns c = no-turn (c .before .args .registered) _ _ (c .if1 .taken)
 
--- src/lib.rt:77:5
 loop-holds : tie.Need-loop-holds Inv-loop μ-loop
 loop-holds c = trying-none _
 
--- src/lib.rt:78:13
 code-turns-requires : tie.Need-code-turns-requires Inv-loop μ-loop
 code-turns-requires c κs = omega arith
 
--- src/lib.rt:80:13
 returns-2 : tie.Need-returns-2 Inv-loop μ-loop
 returns-2 c = trying-hit _ _ (search needs) (sym (c .before .code-turns .ensures) ∙ c .if2 .taken) (c .before .before .before .loop .inv)
 
--- src/lib.rt:82:9
 add-place : tie.Need-add-place Inv-loop μ-loop
 add-place c = search needs
 
--- src/lib.rt:77:5
 loop-less : tie.Need-loop-less Inv-loop μ-loop
 loop-less c = search needs
 
--- src/lib.rt:77:5
 loop-again : tie.Need-loop-again Inv-loop μ-loop
 loop-again c = trying-more _ _ (search needs) (sym (c .before .code-turns .ensures) ∙ c .if2 .left) (c .before .before .before .loop .inv)
 
--- src/lib.rt:70:1
 returns-3 : tie.Need-returns-3 Inv-loop μ-loop
 returns-3 c = trying-all _ _ (search needs) (c .before .loop .inv)
 

@@ -1,3 +1,5 @@
+-- `events_turn` meets its contract.
+-- Assumes nothing.
 use native.Mathlib.Omega.{arith}
 use mathlib.Core.Path.{refl, ap₂}
 use mathlib.Core.Bool.{Bool, not, Bool·beq}
@@ -10,25 +12,20 @@ use Rattle.downloads.proofs.events_turn.Reads as reads
 use Rattle.downloads.proofs.events_turn.Lts as lts
 use Rattle.sets.proofs.meet.Reads as meet-reads
 
--- src/lib.rt:85:9
 returns : tie.Need-returns
 unfolding isDownload
 returns c = rw (lt-leb 5 _ (c .if1 .taken)) refl
 
--- src/lib.rt:88:9
 returns-2 : tie.Need-returns-2
 unfolding isDownload
 returns-2 c = rw (le-leb 5 _ (c .before .if1 .left), le-ltb (c .before .before .args .place) 18 (omega arith)) refl
 
--- src/lib.rt:90:9
 meet-requires : tie.Need-meet-requires
 meet-requires c κs = search needs
 
--- src/lib.rt:91:9
 meet-requires-2 : tie.Need-meet-requires-2
 meet-requires-2 c κs = search needs
 
--- src/lib.rt:81:1
 returns-3 : tie.Need-returns-3
 unfolding isDownload
 returns-3 c =

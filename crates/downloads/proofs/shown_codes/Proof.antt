@@ -22,48 +22,37 @@ Inv-loop selectable registered codes at₀ k₀ i₀ at k i = (i ≤ 13) × Gath
 abbrev μ-loop : tie.MeasureT-loop
 μ-loop selectable registered codes at₀ k₀ i₀ at k i = 13 - i
 
--- src/lib.rt:87:5
 loop-holds : tie.Need-loop-holds Inv-loop μ-loop
 unfolding padded codesFrom
 loop-holds c = (search needs, record { few = search needs; form = refl; many = refl })
 
--- src/lib.rt:88:30
 cast-set : tie.Need-cast-set Inv-loop μ-loop
 cast-set c = search needs
 
--- src/lib.rt:88:30
 add-set : tie.Need-add-set Inv-loop μ-loop
 add-set c = search needs
 
--- src/lib.rt:88:19
 array-read-set : tie.Need-array-read-set Inv-loop μ-loop
 array-read-set c = search needs
 
--- src/lib.rt:89:13
 meet-requires : tie.Need-meet-requires Inv-loop μ-loop
 meet-requires c κs = search needs
 
--- src/lib.rt:91:21
 array-read-at : tie.Need-array-read-at Inv-loop μ-loop
 array-read-at c = search needs
 
--- src/lib.rt:91:13
 array-write-at : tie.Need-array-write-at Inv-loop μ-loop
 array-write-at c = search needs
 
--- src/lib.rt:92:13
 add-k : tie.Need-add-k Inv-loop μ-loop
 add-k c = search needs
 
--- src/lib.rt:94:9
 add-i : tie.Need-add-i Inv-loop μ-loop
 add-i c = search needs
 
--- src/lib.rt:87:5
 loop-less : tie.Need-loop-less Inv-loop μ-loop
 loop-less c = search needs
 
--- src/lib.rt:87:5
 loop-again : tie.Need-loop-again Inv-loop μ-loop
 loop-again c =
     let b = c .before .before .before in
@@ -73,11 +62,9 @@ loop-again c =
     (λ w. (search needs, rw (w .1, w .2) (gathered-no _ _ (b .loop .i) _ _ (omega arith) (is ∙ w .0 .left) (b .loop .inv .1))))
     (c .if1 .came)
 
--- src/lib.rt:96:24
 cast-t22 : tie.Need-cast-t22 Inv-loop μ-loop
 cast-t22 c = search needs
 
--- src/lib.rt:66:1
 returns : tie.Need-returns Inv-loop μ-loop
 unfolding rules.codes
 returns c =

@@ -1,7 +1,6 @@
 -- `fits` meets its contract: the text is not empty, and within the limit.
 -- Assumes nothing.
 use Rattle.refusals.proofs.Lines.{text-empty, text-within}
-use borrow.Author.Needs.{needs}
 use Rattle.refusals.proofs.fits.Statement.{statement}
 use Rattle.refusals.proofs.fits.Tie as tie
 

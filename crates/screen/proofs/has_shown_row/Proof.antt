@@ -1,3 +1,5 @@
+-- `has_shown_row` meets its contract.
+-- Assumes nothing.
 use Rattle.rules.specs.Held.{viewRow}
 -- `has_shown_row` meets its contract. The invariant: what the rows passed say, joined with what is left of the array, is the answer.
 -- Assumes nothing.

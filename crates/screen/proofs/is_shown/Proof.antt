@@ -1,3 +1,5 @@
+-- `is_shown` meets its contract.
+-- Assumes nothing.
 use mathlib.Core.Path.{refl}
 use Rattle.rules.specs.Held.{viewRow}
 use borrow.Author.Needs.{needs}

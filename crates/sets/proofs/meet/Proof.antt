@@ -1,3 +1,5 @@
+-- `meet` meets its contract.
+-- Assumes nothing.
 use Prim.Native.Nat.{ℕ}
 use mathlib.Core.Path.{ap, _∙_}
 use mathlib.Core.Bool.{not}
@@ -10,11 +12,9 @@ use Rattle.sets.proofs.meet.Reads as reads
 use Rattle.sets.proofs.meet.Lts as lts
 use Rattle.sets.proofs.both.Reads as both-reads
 
--- src/lib.rt:45:5
 both-requires : tie.Need-both-requires
 both-requires c κs = search needs
 
--- src/lib.rt:42:1
 returns : tie.Need-returns
 returns c = ap (λ (z : ℕ). not (eqb z 0)) (c .both .ensures) ∙ set-some _
 

@@ -1,3 +1,5 @@
+-- `allocate` meets its contract.
+-- Assumes nothing.
 use Rattle.card.proofs.Timers.{allocates}
 use borrow.Author.Needs.{needs}
 use Rattle.card.proofs.Card.allocate.Statement.{statement}
@@ -9,23 +11,18 @@ use Rattle.card.proofs.timing.owner_for.Reads as owner-for-reads
 use Rattle.sets.proofs.has.Reads as has-reads
 use Rattle.timers.proofs.allocate.Reads as allocate-reads
 
--- src/timing.rt:29:13
 has-requires : tie.Need-has-requires
 has-requires c κs = search needs
 
--- src/timing.rt:30:13
 owner-for-requires : tie.Need-owner-for-requires
 owner-for-requires c κs = search needs
 
--- src/timing.rt:32:13
 grant-at-requires : tie.Need-grant-at-requires
 grant-at-requires c κs = search needs
 
--- src/timing.rt:34:13
 allocate-requires : tie.Need-allocate-requires
 allocate-requires c κs = search needs
 
--- src/timing.rt:24:5
 returns : tie.Need-returns
 returns c =
     let a = c .before in

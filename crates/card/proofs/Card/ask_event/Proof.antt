@@ -1,3 +1,5 @@
+-- `ask_event` meets its contract.
+-- Assumes nothing.
 use Rattle.card.proofs.Asking.{asks-event}
 use Rattle.events.proofs.Places.{kind-of-value, place-within}
 use borrow.Author.Needs.{needs}
@@ -12,42 +14,33 @@ use Rattle.card.proofs.registering.told_of.Reads as told-of-reads
 use Rattle.refusals.proofs.refusal_for.Reads as refusal-for-reads
 use Rattle.sets.proofs.has.Reads as has-reads
 
--- src/registering.rt:139:13
 kind-of-requires : tie.Need-kind-of-requires
 kind-of-requires c κs = search needs
 
--- src/registering.rt:140:13
 has-requires : tie.Need-has-requires
 has-requires c κs = search needs
 
--- src/registering.rt:141:13
 refusal-for-requires : tie.Need-refusal-for-requires
 refusal-for-requires c κs = search needs
 
--- src/registering.rt:142:13
 place-of-requires : tie.Need-place-of-requires
 place-of-requires c κs = search needs
 
--- src/registering.rt:143:17
 cast-p : tie.Need-cast-p
 cast-p c = search needs
 
--- src/registering.rt:145:19
 array-read-set : tie.Need-array-read-set
 array-read-set c =
     let p = c .before in
     let k = p .before .before .before in
     place-within _ (kind-of-value _ (k .before .fits .value) (k .kind-of .ensures)) (p .place-of .ensures)
 
--- src/registering.rt:146:13
 is-listed-requires : tie.Need-is-listed-requires
 is-listed-requires c κs = search needs
 
--- src/registering.rt:147:13
 told-of-requires : tie.Need-told-of-requires
 told-of-requires c κs = search needs
 
--- src/registering.rt:135:5
 returns : tie.Need-returns
 returns c =
     let i = c .before in

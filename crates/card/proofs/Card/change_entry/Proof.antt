@@ -1,3 +1,5 @@
+-- `change_entry` meets its contract.
+-- Assumes nothing.
 use Rattle.card.proofs.Left.{tidy-rows}
 use Rattle.card.proofs.EntryRows.{changes-words}
 use borrow.Author.Needs.{needs}
@@ -13,39 +15,30 @@ use Rattle.refusals.proofs.fits.Reads as fits-reads
 use Rattle.rows.proofs.changed.Reads as changed-reads
 use Rattle.sets.proofs.has.Reads as has-reads
 
--- src/entries.rt:53:13
 has-requires : tie.Need-has-requires
 has-requires c κs = search needs
 
--- src/entries.rt:54:13
 has-requires-2 : tie.Need-has-requires-2
 has-requires-2 c κs = search needs
 
--- src/entries.rt:56:13
 grant-at-requires : tie.Need-grant-at-requires
 grant-at-requires c κs = search needs
 
--- src/entries.rt:57:13
 fits-requires : tie.Need-fits-requires
 fits-requires c κs = search needs
 
--- src/entries.rt:59:13
 changed-requires : tie.Need-changed-requires
 changed-requires c κs = tidy-rows _ (c .before .before .before .before .before .before .before .pre)
 
--- src/entries.rt:60:13
 due-after-requires : tie.Need-due-after-requires
 due-after-requires c κs = search needs
 
--- src/entries.rt:64:13
 change-refusal-requires : tie.Need-change-refusal-requires
 change-refusal-requires c κs = search needs
 
--- src/entries.rt:65:13
 done-of-requires : tie.Need-done-of-requires
 done-of-requires c κs = search needs
 
--- src/entries.rt:48:5
 returns : tie.Need-returns
 returns c =
     let r = c .before in

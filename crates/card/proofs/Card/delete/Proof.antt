@@ -1,3 +1,5 @@
+-- `delete` meets its contract.
+-- Assumes nothing.
 use mathlib.Core.Path.{sym, _∙_}
 use mathlib.Core.Logic.{⊎-elim}
 use Rattle.card.proofs.Left.{tidy-rows}
@@ -23,31 +25,24 @@ use Rattle.sets.proofs.turned.Reads as turned-reads
 use Rattle.timers.proofs.forgotten.Reads as forgotten-reads
 use Rattle.timers.proofs.freed.Reads as freed-reads
 
--- src/removing.rt:21:13
 has-requires : tie.Need-has-requires
 has-requires c κs = search needs
 
--- src/removing.rt:24:17
 turned-requires : tie.Need-turned-requires
 turned-requires c κs = search needs
 
--- src/removing.rt:30:17
 menu-turns-requires : tie.Need-menu-turns-requires
 menu-turns-requires c κs = tidy-rows _ (c .before .before .before .before .before .before .before .before .pre)
 
--- src/removing.rt:31:17
 codes-turn-requires : tie.Need-codes-turn-requires
 codes-turn-requires c κs = search needs
 
--- src/removing.rt:32:17
 due-after-requires : tie.Need-due-after-requires
 due-after-requires c κs = search needs
 
--- src/removing.rt:33:17
 due-after-requires-2 : tie.Need-due-after-requires-2
 due-after-requires-2 c κs = search needs
 
--- src/removing.rt:34:17
 roll-without-requires : tie.Need-roll-without-requires
 roll-without-requires c κs =
     let t = c .before .before .before .before .before .before .before .before .before .before in
@@ -55,35 +50,27 @@ roll-without-requires c κs =
     let there = sym (t .before .has .ensures) ∙ t .if1 .taken in
     (low-is (s .args .self) (s .pre) (s .args .applet) there, high-is (s .args .self) (s .pre) (s .args .applet) there, count-small _ (s .pre))
 
--- src/removing.rt:35:17
 unregistered-requires : tie.Need-unregistered-requires
 unregistered-requires c κs = search needs
 
--- src/removing.rt:36:17
 made-with-requires : tie.Need-made-with-requires
 made-with-requires c κs = search needs
 
--- src/removing.rt:37:17
 freed-requires : tie.Need-freed-requires
 freed-requires c κs = search needs
 
--- src/removing.rt:38:17
 forgotten-requires : tie.Need-forgotten-requires
 forgotten-requires c κs = search needs
 
--- src/removing.rt:39:17
 without-requires : tie.Need-without-requires
 without-requires c κs = tidy-rows _ (c .before .before .before .before .before .before .before .before .before .before .before .before .before .before .before .before .before .pre)
 
--- src/removing.rt:50:13
 absent-refusal-requires : tie.Need-absent-refusal-requires
 absent-refusal-requires c κs = search needs
 
--- src/removing.rt:51:13
 done-of-requires : tie.Need-done-of-requires
 done-of-requires c κs = search needs
 
--- src/removing.rt:16:5
 returns : tie.Need-returns
 returns c =
     let a = c .before in

@@ -1,3 +1,5 @@
+-- `disable_entry` meets its contract.
+-- Assumes nothing.
 use mathlib.Core.Bool.{false}
 use Rattle.card.proofs.Left.{tidy-rows}
 use Rattle.card.proofs.EntryRows.{turns-entry}
@@ -12,31 +14,24 @@ use Rattle.refusals.proofs.row_refusal.Reads as row-refusal-reads
 use Rattle.rows.proofs.enabled.Reads as enabled-reads
 use Rattle.sets.proofs.has.Reads as has-reads
 
--- src/entries.rt:94:13
 has-requires : tie.Need-has-requires
 has-requires c κs = search needs
 
--- src/entries.rt:95:13
 has-requires-2 : tie.Need-has-requires-2
 has-requires-2 c κs = search needs
 
--- src/entries.rt:97:13
 enabled-requires : tie.Need-enabled-requires
 enabled-requires c κs = tidy-rows _ (c .before .before .before .pre)
 
--- src/entries.rt:98:13
 due-after-requires : tie.Need-due-after-requires
 due-after-requires c κs = search needs
 
--- src/entries.rt:102:13
 row-refusal-requires : tie.Need-row-refusal-requires
 row-refusal-requires c κs = search needs
 
--- src/entries.rt:103:13
 done-of-requires : tie.Need-done-of-requires
 done-of-requires c κs = search needs
 
--- src/entries.rt:89:5
 returns : tie.Need-returns
 returns c =
     let r = c .before in

@@ -1,3 +1,5 @@
+-- `fresh` meets its contract.
+-- Assumes nothing.
 use denote.Ref.{now}
 use Rattle.card.proofs.FreshCard.{kept-long, kept-short, freshens}
 use borrow.Author.Needs.{needs}
@@ -10,33 +12,27 @@ use Rattle.card.proofs.fresh.kept_length.Reads as kept-length-reads
 use Rattle.card.proofs.fresh.made.Reads as made-reads
 use Rattle.refusals.proofs.title_refusal.Reads as title-refusal-reads
 
--- src/fresh.rt:69:13
 title-refusal-requires : tie.Need-title-refusal-requires
 title-refusal-requires c κs = search needs
 
--- src/fresh.rt:70:13
 kept-length-requires : tie.Need-kept-length-requires
 kept-length-requires c κs = search needs
 
--- src/fresh.rt:71:25
 slice-aggregate-made : tie.Need-slice-aggregate-made
 slice-aggregate-made c =
     let n = c .before in
     let r = n .before in
     kept-long (now (r .before .before .args .title)) (r .title-refusal .ensures) (n .kept-length .ensures)
 
--- src/fresh.rt:71:13
 made-requires : tie.Need-made-requires
 made-requires c κs =
     let n = c .before in
     let r = n .before in
     kept-short (now (r .before .before .args .title)) (r .title-refusal .ensures) (n .kept-length .ensures)
 
--- src/fresh.rt:72:13
 done-of-requires : tie.Need-done-of-requires
 done-of-requires c κs = search needs
 
--- src/fresh.rt:66:5
 returns : tie.Need-returns
 returns c =
     let m = c .before in

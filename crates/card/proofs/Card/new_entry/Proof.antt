@@ -1,3 +1,5 @@
+-- `new_entry` meets its contract.
+-- Assumes nothing.
 use native.Mathlib.Omega.{arith}
 use mathlib.Core.Logic.{⊎-elim}
 use Rattle.card.proofs.Left.{tidy-rows}
@@ -20,43 +22,33 @@ use Rattle.rows.proofs.identifier_for.Reads as identifier-for-reads
 use Rattle.rows.proofs.row_of.Reads as row-of-reads
 use Rattle.sets.proofs.has.Reads as has-reads
 
--- src/entries.rt:22:13
 has-requires : tie.Need-has-requires
 has-requires c κs = search needs
 
--- src/entries.rt:24:13
 grant-at-requires : tie.Need-grant-at-requires
 grant-at-requires c κs = search needs
 
--- src/entries.rt:26:13
 made-at-requires : tie.Need-made-at-requires
 made-at-requires c κs = search needs
 
--- src/entries.rt:27:13
 fits-requires : tie.Need-fits-requires
 fits-requires c κs = search needs
 
--- src/entries.rt:28:13
 new-refusal-requires : tie.Need-new-refusal-requires
 new-refusal-requires c κs = search needs
 
--- src/entries.rt:32:17
 next-pair-requires : tie.Need-next-pair-requires
 next-pair-requires c κs = search needs
 
--- src/entries.rt:33:13
 identifier-for-requires : tie.Need-identifier-for-requires
 identifier-for-requires c κs = tidy-rows _ (c .before .before .before .before .before .before .before .before .before .before .before .pre)
 
--- src/entries.rt:34:17
 row-of-requires : tie.Need-row-of-requires
 row-of-requires c κs = search needs
 
--- src/entries.rt:35:17
 inserted-requires : tie.Need-inserted-requires
 inserted-requires c κs = (tidy-rows _ (c .before .before .before .before .before .before .before .before .before .before .before .before .before .pre), row-tidy _ (c .row-of .ensures))
 
--- src/entries.rt:36:57
 add-made-with : tie.Need-add-made-with
 add-made-with c =
     let b = c .before .before .before .before .before in
@@ -69,23 +61,18 @@ add-made-with c =
     let few = made-few (s .args .self) (s .pre) (s .args .applet) (s .args .help) (s .args .text .now) (h .has .ensures) (g .grant-at .ensures) (k .made-at .ensures) (f .fits2 .ensures) (r .new-refusal .ensures) (b .if1 .taken) in
     omega arith
 
--- src/entries.rt:36:17
 made-with-requires : tie.Need-made-with-requires
 made-with-requires c κs = search needs
 
--- src/entries.rt:37:17
 has-requires-2 : tie.Need-has-requires-2
 has-requires-2 c κs = search needs
 
--- src/entries.rt:38:17
 due-after-requires : tie.Need-due-after-requires
 due-after-requires c κs = search needs
 
--- src/entries.rt:43:13
 given-of-requires : tie.Need-given-of-requires
 given-of-requires c κs = search needs
 
--- src/entries.rt:17:5
 returns : tie.Need-returns
 returns c =
     let j = c .before in

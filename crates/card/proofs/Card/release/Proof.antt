@@ -1,3 +1,5 @@
+-- `release` meets its contract.
+-- Assumes nothing.
 use Rattle.card.proofs.Timers.{releases}
 use borrow.Author.Needs.{needs}
 use Rattle.card.proofs.Card.release.Statement.{statement}
@@ -8,19 +10,15 @@ use Rattle.card.proofs.timing.owner_for.Reads as owner-for-reads
 use Rattle.sets.proofs.has.Reads as has-reads
 use Rattle.timers.proofs.release.Reads as release-reads
 
--- src/timing.rt:47:13
 has-requires : tie.Need-has-requires
 has-requires c κs = search needs
 
--- src/timing.rt:48:13
 owner-for-requires : tie.Need-owner-for-requires
 owner-for-requires c κs = search needs
 
--- src/timing.rt:50:13
 release-requires : tie.Need-release-requires
 release-requires c κs = search needs
 
--- src/timing.rt:42:5
 returns : tie.Need-returns
 returns c =
     let a = c .before in

@@ -1,3 +1,5 @@
+-- `response` meets its contract.
+-- Assumes nothing.
 use Rattle.card.proofs.Sends.{responds}
 use borrow.Author.Needs.{needs}
 use Rattle.card.proofs.Card.response.Statement.{statement}
@@ -8,19 +10,15 @@ use Rattle.card.proofs.done_of.Reads as done-of-reads
 use Rattle.card.proofs.proactive.outstanding_after.Reads as outstanding-after-reads
 use Rattle.refusals.proofs.response_refusal.Reads as response-refusal-reads
 
--- src/proactive.rt:47:13
 response-refusal-requires : tie.Need-response-refusal-requires
 response-refusal-requires c κs = search needs
 
--- src/proactive.rt:48:13
 outstanding-after-requires : tie.Need-outstanding-after-requires
 outstanding-after-requires c κs = search needs
 
--- src/proactive.rt:50:13
 done-of-requires : tie.Need-done-of-requires
 done-of-requires c κs = search needs
 
--- src/proactive.rt:41:5
 returns : tie.Need-returns
 returns c =
     let o = c .before .before in

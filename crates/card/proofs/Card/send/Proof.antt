@@ -1,3 +1,5 @@
+-- `send` meets its contract.
+-- Assumes nothing.
 use denote.Ref.{now}
 use Rattle.card.proofs.Sends.{sends}
 use borrow.Author.Needs.{needs}
@@ -11,27 +13,21 @@ use Rattle.envelopes.proofs.read_command.Reads as read-command-reads
 use Rattle.refusals.proofs.send_refusal.Reads as send-refusal-reads
 use Rattle.sets.proofs.has.Reads as has-reads
 
--- src/proactive.rt:28:13
 read-command-requires : tie.Need-read-command-requires
 read-command-requires c κs = search needs
 
--- src/proactive.rt:30:13
 has-requires : tie.Need-has-requires
 has-requires c κs = search needs
 
--- src/proactive.rt:33:13
 send-refusal-requires : tie.Need-send-refusal-requires
 send-refusal-requires c κs = search needs
 
--- src/proactive.rt:34:13
 outstanding-after-requires : tie.Need-outstanding-after-requires
 outstanding-after-requires c κs = search needs
 
--- src/proactive.rt:36:13
 done-of-requires : tie.Need-done-of-requires
 done-of-requires c κs = search needs
 
--- src/proactive.rt:24:5
 returns : tie.Need-returns
 returns c =
     let o = c .before .before in

@@ -1,3 +1,5 @@
+-- `set_event` meets its contract.
+-- Assumes nothing.
 use mathlib.Core.Bool.{true}
 use Rattle.events.proofs.Places.{kind-of-value, place-within}
 use Rattle.card.proofs.Events.{turns-event}
@@ -16,61 +18,48 @@ use Rattle.events.proofs.place_of.Reads as place-of-reads
 use Rattle.refusals.proofs.refusal_to_set.Reads as refusal-to-set-reads
 use Rattle.sets.proofs.has.Reads as has-reads
 
--- src/registering.rt:77:13
 kind-of-requires : tie.Need-kind-of-requires
 kind-of-requires c κs = search needs
 
--- src/registering.rt:78:13
 has-requires : tie.Need-has-requires
 has-requires c κs = search needs
 
--- src/registering.rt:79:13
 refusal-to-set-requires : tie.Need-refusal-to-set-requires
 refusal-to-set-requires c κs = search needs
 
--- src/registering.rt:80:13
 place-of-requires : tie.Need-place-of-requires
 place-of-requires c κs = search needs
 
--- src/registering.rt:81:17
 cast-p : tie.Need-cast-p
 cast-p c = search needs
 
--- src/registering.rt:83:19
 array-read-was : tie.Need-array-read-was
 array-read-was c =
     let p = c .before in
     let k = p .before .before .before in
     place-within _ (kind-of-value _ (k .before .fits .value) (k .kind-of .ensures)) (p .place-of .ensures)
 
--- src/registering.rt:84:13
 set-after-requires : tie.Need-set-after-requires
 set-after-requires c κs = search needs
 
--- src/registering.rt:85:13
 events-turn-requires : tie.Need-events-turn-requires
 events-turn-requires c κs = search needs
 
--- src/registering.rt:86:13
 owner-after-requires : tie.Need-owner-after-requires
 owner-after-requires c κs = search needs
 
--- src/registering.rt:87:13
 due-after-requires : tie.Need-due-after-requires
 due-after-requires c κs = search needs
 
--- src/registering.rt:88:9
 array-write-registered : tie.Need-array-write-registered
 array-write-registered c =
     let p = c .before .before .before .before .before in
     let k = p .before .before .before in
     place-within _ (kind-of-value _ (k .before .fits .value) (k .kind-of .ensures)) (p .place-of .ensures)
 
--- src/registering.rt:92:13
 done-of-requires : tie.Need-done-of-requires
 done-of-requires c κs = search needs
 
--- src/registering.rt:72:5
 returns : tie.Need-returns
 returns c =
     let d = c .before .before in

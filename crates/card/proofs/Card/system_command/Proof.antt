@@ -1,3 +1,5 @@
+-- `system_command` meets its contract.
+-- Assumes nothing.
 use Prim.Native.Nat.{_≤_}
 use denote.Ref.{now}
 use native.Mathlib.Omega.{arith}
@@ -17,19 +19,15 @@ use Rattle.card.proofs.handing.put_events.Reads as put-events-reads
 use Rattle.card.proofs.handing.put_menu.Reads as put-menu-reads
 use Rattle.refusals.proofs.hand_refusal.Reads as hand-refusal-reads
 
--- src/handing.rt:77:13
 hand-refusal-requires : tie.Need-hand-refusal-requires
 hand-refusal-requires c κs = search needs
 
--- src/handing.rt:78:13
 is-handed-requires : tie.Need-is-handed-requires
 is-handed-requires c κs = search needs
 
--- src/handing.rt:79:13
 is-handed-requires-2 : tie.Need-is-handed-requires-2
 is-handed-requires-2 c κs = search needs
 
--- src/handing.rt:90:13
 put-menu-requires : tie.Need-put-menu-requires
 put-menu-requires c κs =
     let i = c .before .before .before in
@@ -97,7 +95,6 @@ due-written c =
     (λ w. then-not apart _ _ (menu-written (c .before)) (w .0 .left) (w .1) (w .2))
     (c .if2 .came)
 
--- src/handing.rt:94:13
 put-events-requires : tie.Need-put-events-requires
 put-events-requires c κs =
     let i = c .before .before in
@@ -109,19 +106,15 @@ put-events-requires c κs =
     let room : 256 ≤ length (now (s .args .buf)) = handed-room _ _ _ (r .hand-refusal .ensures) (e .is-handed2 .ensures) (i .if2 .taken) in
     omega (arith, room, menu-written first .0 .long)
 
--- src/handing.rt:96:40
 cast-given-of : tie.Need-cast-given-of
 cast-given-of c = omega (arith, due-written (c .before) .1)
 
--- src/handing.rt:96:13
 given-of-requires : tie.Need-given-of-requires
 given-of-requires c κs = search needs
 
--- src/handing.rt:69:5
 same-length : tie.Need-same-length
 same-length c = due-written (c .before .before) .0 .long
 
--- src/handing.rt:69:5
 returns : tie.Need-returns
 returns c =
     let second = c .before .before in

@@ -1,3 +1,5 @@
+-- `kept_length` meets its contract.
+-- Assumes nothing.
 use Rattle.lists.proofs.Picks.{picks}
 use borrow.Author.Needs.{needs}
 use Rattle.card.proofs.fresh.kept_length.Statement.{statement}
@@ -5,11 +7,9 @@ use Rattle.card.proofs.fresh.kept_length.Tie as tie
 use Rattle.card.proofs.fresh.kept_length.Reads as reads
 use Rattle.card.proofs.fresh.kept_length.Lts as lts
 
--- src/fresh.rt:24:9
 returns : tie.Need-returns
 returns c = search (picks, needs) depth 8
 
--- src/fresh.rt:20:1
 returns-2 : tie.Need-returns-2
 returns-2 c = search (picks, needs) depth 8
 

@@ -1,3 +1,5 @@
+-- `made` meets its contract.
+-- Assumes nothing.
 use mathlib.Core.Path.{ap, _∙_}
 use denote.Ref.{now}
 use lib.Seq.{take-all}
@@ -12,23 +14,18 @@ use Rattle.applets.proofs.no_roll.Reads as no-roll-reads
 use Rattle.menu.proofs.no_rows.Reads as no-rows-reads
 use Rattle.writing.proofs.held_title.Reads as held-title-reads
 
--- src/fresh.rt:34:9
 no-roll-requires : tie.Need-no-roll-requires
 no-roll-requires c κs = search needs
 
--- src/fresh.rt:35:9
 no-rows-requires : tie.Need-no-rows-requires
 no-rows-requires c κs = search needs
 
--- src/fresh.rt:39:9
 held-title-requires : tie.Need-held-title-requires
 held-title-requires c κs = search needs
 
--- src/fresh.rt:48:20
 cast-t10 : tie.Need-cast-t10
 cast-t10 c = search needs
 
--- src/fresh.rt:30:1
 returns : tie.Need-returns
 returns c =
     let rows = c .before in

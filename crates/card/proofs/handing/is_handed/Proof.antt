@@ -1,3 +1,5 @@
+-- `is_handed` meets its contract.
+-- Assumes nothing.
 use mathlib.Core.Path.{refl}
 use borrow.Author.Tests.{ne-eqb}
 use Rattle.card.proofs.handing.is_handed.Statement.{statement}
@@ -5,15 +7,12 @@ use Rattle.card.proofs.handing.is_handed.Tie as tie
 use Rattle.card.proofs.handing.is_handed.Reads as reads
 use Rattle.card.proofs.handing.is_handed.Lts as lts
 
--- src/handing.rt:33:13
 returns : tie.Need-returns
 returns c = rw (c .before .if1 .taken, c .if2 .taken) refl
 
--- src/handing.rt:35:9
 returns-2 : tie.Need-returns-2
 returns-2 c = rw (c .before .if1 .taken, c .if2 .left) refl
 
--- src/handing.rt:28:1
 returns-3 : tie.Need-returns-3
 returns-3 c = rw (ne-eqb _ 0 (c .if1 .left)) refl
 

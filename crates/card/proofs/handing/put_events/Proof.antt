@@ -1,3 +1,5 @@
+-- `put_events` meets its contract.
+-- Assumes nothing.
 use Rattle.card.proofs.Handed.{codes-room, codes-count, codes-few, codes-wrote}
 use borrow.Author.Needs.{needs}
 use Rattle.card.proofs.handing.put_events.Statement.{statement}
@@ -7,33 +9,26 @@ use Rattle.card.proofs.handing.put_events.Lts as lts
 use Rattle.command.proofs.write_events.Reads as write-events-reads
 use Rattle.downloads.proofs.shown_codes.Reads as shown-codes-reads
 
--- src/handing.rt:61:9
 shown-codes-requires : tie.Need-shown-codes-requires
 shown-codes-requires c κs = search needs
 
--- src/handing.rt:63:13
 cast-n : tie.Need-cast-n
 cast-n c = search needs
 
--- src/handing.rt:64:32
 array-share-prefix-at : tie.Need-array-share-prefix-at
 array-share-prefix-at c = codes-room _ (c .before .before .before .shown-codes .ensures)
 
--- src/handing.rt:64:32
 slice-aggregate-write-events : tie.Need-slice-aggregate-write-events
 slice-aggregate-write-events c = codes-count _ (c .before .before .before .before .shown-codes .ensures)
 
--- src/handing.rt:64:5
 write-events-requires : tie.Need-write-events-requires
 write-events-requires c κs =
     let k = c .before .before .before .before in
     (codes-few _ (k .shown-codes .ensures), k .before .before .pre)
 
--- src/handing.rt:57:1
 same-length : tie.Need-same-length
 same-length c = search needs
 
--- src/handing.rt:57:1
 returns : tie.Need-returns
 returns c =
     let w = c .before .before in

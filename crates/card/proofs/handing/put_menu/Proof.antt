@@ -1,3 +1,5 @@
+-- `put_menu` meets its contract.
+-- Assumes nothing.
 use mathlib.Core.Path.{sym}
 use lib.Seq.{length-take-le}
 use Rattle.card.proofs.Handed.{title-most, menu-wrote}
@@ -8,25 +10,20 @@ use Rattle.card.proofs.handing.put_menu.Reads as reads
 use Rattle.card.proofs.handing.put_menu.Lts as lts
 use Rattle.command.proofs.write_menu.Reads as write-menu-reads
 
--- src/handing.rt:43:30
 array-share-prefix-title : tie.Need-array-share-prefix-title
 array-share-prefix-title c = search needs
 
--- src/handing.rt:43:30
 slice-aggregate-write-menu : tie.Need-slice-aggregate-write-menu
 slice-aggregate-write-menu c = sym (length-take-le _ _ (search needs))
 
--- src/handing.rt:43:5
 write-menu-requires : tie.Need-write-menu-requires
 write-menu-requires c κs =
     let s = c .before .before .before in
     (s .pre .0, title-most _ _ (s .pre .1), s .pre .2)
 
--- src/handing.rt:38:1
 same-length : tie.Need-same-length
 same-length c = search needs
 
--- src/handing.rt:38:1
 returns : tie.Need-returns
 returns c =
     let w = c .before .before in

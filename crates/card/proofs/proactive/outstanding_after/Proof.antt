@@ -1,3 +1,5 @@
+-- `outstanding_after` meets its contract.
+-- Assumes nothing.
 use Rattle.lists.proofs.Picks.{picks}
 use borrow.Author.Needs.{needs}
 use Rattle.card.proofs.proactive.outstanding_after.Statement.{statement}
@@ -5,11 +7,9 @@ use Rattle.card.proofs.proactive.outstanding_after.Tie as tie
 use Rattle.card.proofs.proactive.outstanding_after.Reads as reads
 use Rattle.card.proofs.proactive.outstanding_after.Lts as lts
 
--- src/proactive.rt:17:9
 returns : tie.Need-returns
 returns c = search (picks, needs) depth 8
 
--- src/proactive.rt:13:1
 returns-2 : tie.Need-returns-2
 returns-2 c = search (picks, needs) depth 8
 

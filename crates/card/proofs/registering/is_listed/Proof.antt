@@ -1,3 +1,5 @@
+-- `is_listed` meets its contract.
+-- Assumes nothing.
 use Rattle.lists.proofs.Picks.{picks}
 use borrow.Author.Needs.{needs}
 use Rattle.card.proofs.registering.is_listed.Statement.{statement}
@@ -6,15 +8,12 @@ use Rattle.card.proofs.registering.is_listed.Reads as reads
 use Rattle.card.proofs.registering.is_listed.Lts as lts
 use Rattle.sets.proofs.has.Reads as has-reads
 
--- src/registering.rt:90:9
 returns : tie.Need-returns
 returns c = search (picks, needs) depth 8
 
--- src/registering.rt:92:5
 has-requires : tie.Need-has-requires
 has-requires c κs = search needs
 
--- src/registering.rt:86:1
 returns-2 : tie.Need-returns-2
 returns-2 c = search (picks, needs) depth 8
 

@@ -1,3 +1,5 @@
+-- `owner_after` meets its contract.
+-- Assumes nothing.
 use Rattle.lists.proofs.Picks.{picks}
 use borrow.Author.Needs.{needs}
 use Rattle.card.proofs.registering.owner_after.Statement.{statement}
@@ -6,23 +8,18 @@ use Rattle.card.proofs.registering.owner_after.Reads as reads
 use Rattle.card.proofs.registering.owner_after.Lts as lts
 use Rattle.timers.proofs.forgotten.Reads as forgotten-reads
 
--- src/registering.rt:71:17
 returns : tie.Need-returns
 returns c = search (picks, needs) depth 8
 
--- src/registering.rt:73:13
 forgotten-requires : tie.Need-forgotten-requires
 forgotten-requires c κs = search needs
 
--- src/registering.rt:73:13
 returns-2 : tie.Need-returns-2
 returns-2 c = search (picks, needs) depth 8
 
--- src/registering.rt:75:9
 returns-3 : tie.Need-returns-3
 returns-3 c = search (picks, needs) depth 8
 
--- src/registering.rt:65:1
 returns-4 : tie.Need-returns-4
 returns-4 c = search (picks, needs) depth 8
 

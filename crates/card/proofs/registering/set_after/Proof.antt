@@ -1,3 +1,5 @@
+-- `set_after` meets its contract.
+-- Assumes nothing.
 use Rattle.lists.proofs.Picks.{picks}
 use borrow.Author.Needs.{needs}
 use Rattle.card.proofs.registering.set_after.Statement.{statement}
@@ -6,19 +8,15 @@ use Rattle.card.proofs.registering.set_after.Reads as reads
 use Rattle.card.proofs.registering.set_after.Lts as lts
 use Rattle.sets.proofs.turned.Reads as turned-reads
 
--- src/registering.rt:57:13
 returns : tie.Need-returns
 returns c = search (picks, needs) depth 8
 
--- src/registering.rt:59:9
 turned-requires : tie.Need-turned-requires
 turned-requires c κs = search needs
 
--- src/registering.rt:59:9
 returns-2 : tie.Need-returns-2
 returns-2 c = search (picks, needs) depth 8
 
--- src/registering.rt:52:1
 returns-3 : tie.Need-returns-3
 returns-3 c = search (picks, needs) depth 8
 

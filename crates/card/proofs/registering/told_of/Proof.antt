@@ -1,3 +1,5 @@
+-- `told_of` meets its contract.
+-- Assumes nothing.
 use Rattle.lists.proofs.Picks.{picks}
 use borrow.Author.Needs.{needs}
 use Rattle.card.proofs.registering.told_of.Statement.{statement}
@@ -5,15 +7,12 @@ use Rattle.card.proofs.registering.told_of.Tie as tie
 use Rattle.card.proofs.registering.told_of.Reads as reads
 use Rattle.card.proofs.registering.told_of.Lts as lts
 
--- src/registering.rt:34:13
 returns : tie.Need-returns
 returns c = search (picks, needs) depth 8
 
--- src/registering.rt:36:9
 returns-2 : tie.Need-returns-2
 returns-2 c = search (picks, needs) depth 8
 
--- src/registering.rt:29:1
 returns-3 : tie.Need-returns-3
 returns-3 c = search (picks, needs) depth 8
 
