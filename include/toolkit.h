@@ -115,11 +115,11 @@ struct toolkit_grant {      /* what an applet was installed with; zeros where th
 TOOLKIT_LAYOUT(struct toolkit_grant, 12, 1);
 
 struct toolkit_roll {
-    uint8_t present;                                /* set of the applets that are there */
-    uint8_t count;                                  /* how many */
+    uint8_t count;                                  /* how many applets are there */
     uint8_t age[TOOLKIT_APPLETS];                   /* their numbers in order of installation */
     uint8_t order[TOOLKIT_APPLETS];                 /* and in order of call */
     struct toolkit_grant grants[TOOLKIT_APPLETS];   /* by number */
+    uint8_t present;                                /* set of the applets that are there */
 };
 TOOLKIT_LAYOUT(struct toolkit_roll, 114, 1);
 
@@ -161,23 +161,23 @@ struct toolkit_desk {
 TOOLKIT_LAYOUT(struct toolkit_desk, 57, 1);
 
 struct toolkit_card {
-    struct toolkit_roll roll;
     uint8_t selectable;                     /* set of those that are not locked */
     uint8_t registered[TOOLKIT_EVENTS];     /* for each event, in the order of document 01, the set of those registered; none for call control */
-    uint8_t made[TOOLKIT_APPLETS];          /* by number, how many of its entries are rows */
     uint8_t control;                        /* who owns call control; 0: nobody */
-    struct toolkit_rows rows;
+    uint8_t made[TOOLKIT_APPLETS];          /* by number, how many of its entries are rows */
     struct toolkit_bank bank;
+    struct toolkit_roll roll;
+    struct toolkit_rows rows;
     struct toolkit_desk desk;
 };
 TOOLKIT_LAYOUT(struct toolkit_card, 450, 1);
-TOOLKIT_FACT(offsetof(struct toolkit_card, roll) == 0);
-TOOLKIT_FACT(offsetof(struct toolkit_card, selectable) == 114);
-TOOLKIT_FACT(offsetof(struct toolkit_card, registered) == 115);
-TOOLKIT_FACT(offsetof(struct toolkit_card, made) == 135);
-TOOLKIT_FACT(offsetof(struct toolkit_card, control) == 143);
-TOOLKIT_FACT(offsetof(struct toolkit_card, rows) == 144);
-TOOLKIT_FACT(offsetof(struct toolkit_card, bank) == 385);
+TOOLKIT_FACT(offsetof(struct toolkit_card, selectable) == 0);
+TOOLKIT_FACT(offsetof(struct toolkit_card, registered) == 1);
+TOOLKIT_FACT(offsetof(struct toolkit_card, control) == 21);
+TOOLKIT_FACT(offsetof(struct toolkit_card, made) == 22);
+TOOLKIT_FACT(offsetof(struct toolkit_card, bank) == 30);
+TOOLKIT_FACT(offsetof(struct toolkit_card, roll) == 38);
+TOOLKIT_FACT(offsetof(struct toolkit_card, rows) == 152);
 TOOLKIT_FACT(offsetof(struct toolkit_card, desk) == 393);
 
 /* ---- Answers: with a refusal, all else is 0 or false ---- */

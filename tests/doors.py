@@ -63,10 +63,10 @@ def grant_bytes(applet):
 
 
 def roll_bytes(applets):
-    """Who is there, how many, in order of installation and of call, and what each was installed with, by number."""
+    """How many are there, in order of installation and of call, what each was installed with, by number, and who is there."""
     called = sorted(applets, key=lambda number: (applets[number].priority, -applets[number].installed))
     grants = b"".join(grant_bytes(applets.get(number)) for number in range(1, 9))
-    return bytes([number_set(applets), len(applets)]) + bytes(applets).ljust(8, b"\0") + bytes(called).ljust(8, b"\0") + grants
+    return bytes([len(applets)]) + bytes(applets).ljust(8, b"\0") + bytes(called).ljust(8, b"\0") + grants + bytes([number_set(applets)])
 
 
 def registered_bytes(applets):
@@ -75,15 +75,15 @@ def registered_bytes(applets):
 
 
 def card_bytes(card):
-    """The 450 bytes of this card: the roll, sets and tables by number, call control, rows, timers, the terminal's side."""
+    """The 450 bytes of this card: sets and tables by number, timers, the roll, the rows, the terminal's side."""
     applets = card.applets
     selectable = number_set(number for number, applet in applets.items() if not applet.locked)
     made = bytes(sum(row.owner == number for row in card.rows) for number in range(1, 9))
     control = [number for number, applet in applets.items() if CALL_CONTROL_EVENT in applet.events] or [0]
     rows = padded([bytes([row.identifier, row.owner, row.help, row.enabled]) + text(row.text, 15) for row in card.rows], 12, 20)
     desk = bytes([card.menu_due, card.events_due, card.session, card.outstanding, len(card.title)]) + card.title.ljust(20, b"\0")
-    return (roll_bytes(applets) + bytes([selectable]) + registered_bytes(applets) + made + bytes(control) + rows
-            + bytes(card.owners) + desk + card.terminal_profile)
+    return (bytes([selectable]) + registered_bytes(applets) + bytes(control) + made + bytes(card.owners) + roll_bytes(applets) + rows
+            + desk + card.terminal_profile)
 
 
 def menu_bytes(answer):

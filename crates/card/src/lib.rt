@@ -28,13 +28,13 @@ use rules::Told;
 
 #[repr(C)]
 pub struct Card {
-    pub roll: Roll,
     pub selectable: u8,
     pub registered: [u8; Kind::EVENTS],
-    pub made: [u8; Roll::APPLETS],
     pub control: u8,
-    pub rows: Rows,
+    pub made: [u8; Roll::APPLETS],
     pub bank: Bank,
+    pub roll: Roll,
+    pub rows: Rows,
     pub desk: Desk,
 }
 

@@ -38,7 +38,7 @@ pub fn events_turn(place: u8, was: u8, is: u8, selectable: u8) -> bool
 }
 
 // Whether an event is listened for by one set of selectable applets and not by another.
-fn code_turns(registered: [u8; 20], was: u8, is: u8, place: u8) -> bool
+fn code_turns(registered: [u8; Kind::EVENTS], was: u8, is: u8, place: u8) -> bool
     requires { ⌜ place < 20 ⌝ }
     ensures { λ r. ⌜ r ≡ codeTurns registered was is place ⌝ }
 {
@@ -50,25 +50,21 @@ fn code_turns(registered: [u8; 20], was: u8, is: u8, place: u8) -> bool
 }
 
 // Whether some download code is.
-pub fn codes_turn(registered: [u8; 20], was: u8, is: u8) -> bool
+pub fn codes_turn(registered: [u8; Kind::EVENTS], was: u8, is: u8) -> bool
     ensures { λ r. ⌜ r ≡ anyCode (codeTurns registered was is) ⌝ }
 {
-    if was == is {
-        return false;
-    }
+    let mut any = false;
     let mut place: u8 = Kind::MT_CALL;
     while place <= Kind::BROWSING_STATUS {
         let turns = code_turns(registered, was, is, place);
-        if turns {
-            return true;
-        }
+        any = any | turns;
         place += 1;
     }
-    false
+    any
 }
 
 // The codes of the events for which the set of those registered and that of the selectable applets meet.
-pub fn shown_codes(registered: [u8; 20], selectable: u8) -> Codes
+pub fn shown_codes(registered: [u8; Kind::EVENTS], selectable: u8) -> Codes
     ensures { λ r. ⌜ r ≡ codesOf (codesFrom (isListened registered selectable) firstDownload codes) ⌝ }
 {
     let codes = [
@@ -102,7 +98,7 @@ pub fn shown_codes(registered: [u8; 20], selectable: u8) -> Codes
 }
 
 // Whether some download code is listened for.
-pub fn any_listened(registered: [u8; 20], selectable: u8) -> bool
+pub fn any_listened(registered: [u8; Kind::EVENTS], selectable: u8) -> bool
     ensures { λ r. ⌜ r ≡ anyCode (isListened registered selectable) ⌝ }
 {
     let mut any = false;

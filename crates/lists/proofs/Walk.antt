@@ -72,40 +72,6 @@ module _ {A : Type 0} (p : A → Bool) (blank : A) (fails : p blank ≡ false) w
   unfolding padded
   some-padded cap l = some-behind p l _ (some-blank (cap - length l))
 
--- nor is one found there, where the blank stands for none
-module _ {A : Type 0} (p : A → Bool) (blank : A) where
-  first-blank : (n : ℕ) → first p blank (replicate n blank) ≡ blank
-  unfolding first
-  first-blank zero = refl
-  first-blank (suc n) = go (p blank) (first-blank n)
-    where
-      go : (b : Bool) → first p blank (replicate n blank) ≡ blank → (if b then blank else first p blank (replicate n blank)) ≡ blank
-      go true e = refl
-      go false e = e
-
-  first-behind : (l k : List A) → first p blank k ≡ blank → first p blank (l ++ k) ≡ first p blank l
-  unfolding first
-  first-behind [] k e = e
-  first-behind (x ∷ l) k e = ap (λ (y : A). if p x then x else y) (first-behind l k e)
-
-  pub first-padded : (cap : ℕ) (l : List A) → first p blank (padded cap blank l) ≡ first p blank l
-  unfolding padded
-  first-padded cap l = first-behind l _ (first-blank (cap - length l))
-
-  -- a loop from the end to the front: what the first that passes has, of those from an index on
-  module _ {B : Type 0} (f : A → B) (l : List A) where
-    pub back-none : (n : ℕ) → length l ≤ n → f blank ≡ f (first p blank (drop n l))
-    unfolding first
-    back-none n h = rw (drop-of-length-le l h) refl
-
-    pub back-more : (i : ℕ) (d : A) {x : B} → i < length l → x ≡ f (first p blank (drop (i + 1) l)) → (if p (getD l i d) then f (getD l i d) else x) ≡ f (first p blank (drop i l))
-    unfolding first
-    back-more i d h e = rw (drop-step l i d h, e) (go (p (getD l i d)))
-      where
-        go : (b : Bool) → (if b then f (getD l i d) else f (first p blank (drop (i + 1) l))) ≡ f (if b then getD l i d else first p blank (drop (i + 1) l))
-        go true = refl
-        go false = refl
-
 -- where at most one passes p, one that passes p and q is the first that passes p
 module _ {A : Type 0} (p q : A → Bool) where
   none-both : (l : List A) → count p l ≤ 0 → some? (λ (x : A). p x && q x) l ≡ false

@@ -31,15 +31,15 @@ impl Grant {
     pub const ENTRIES: usize = 4;
 }
 
-// What installs fix of the applets: the set of their numbers, these in order of installation and in order of call, and by
-// number what each was installed with.
+// What installs fix of the applets: their numbers in order of installation and in order of call, by number what each was
+// installed with, and the set of their numbers.
 #[repr(C)]
 pub struct Roll {
-    pub present: u8,
     pub count: u8,
     pub age: [u8; Roll::APPLETS],
     pub order: [u8; Roll::APPLETS],
     pub grants: [Grant; Roll::APPLETS],
+    pub present: u8,
 }
 
 impl Roll {

@@ -5,14 +5,16 @@ use native.Mathlib.Omega.{arith}
 use mathlib.Core.Path.{_≡_, refl, sym, ap, _∙_}
 use mathlib.Core.Bool.{Bool, true, false, not, Bool·beq, _&&_, _||_}
 use mathlib.Core.List.{List, map}
-use lib.ListN.{length, take, drop, getD}
-use lib.Seq.{length-take-le}
+use lib.ListN.{length, take, getD, List·getD-eq-default}
+use lib.Seq.{length-take-le, getD-take}
 use Rattle.lists.specs.Tests.{if_then_else_, _==_}
-use Rattle.lists.specs.Lists.{same?, some?, first}
+use Rattle.lists.specs.Lists.{same?, some?, first, indexOf}
 use Rattle.lists.proofs.Alike.{unlike-length}
 use Rattle.lists.proofs.Mapped.{map-some}
-use Rattle.lists.proofs.Looking.{map-first}
-use Rattle.lists.proofs.Walk.{some-padded, first-padded, back-none, back-more}
+use Rattle.lists.proofs.Search.{Sought, sought-hit, first-is}
+use Rattle.lists.proofs.Looking.{sought-end, map-first}
+use Rattle.lists.proofs.Padded.{getD-any}
+use Rattle.lists.proofs.Walk.{some-padded}
 use Rattle.sets.specs.Sets.{has?}
 use Rattle.rules.specs.declared.Row as held
 use Rattle.rules.specs.declared.Rows.{Rows}
@@ -20,40 +22,30 @@ use Rattle.rules.specs.Holds.{Row}
 use Rattle.rules.specs.Held.{viewRow, storedRow, viewRows, noRow, TidyRows}
 use Rattle.menu.specs.Table.{TidyRow}
 use Rattle.menu.proofs.Tidy.{blank, row-back, text-within, at-is, long, some-viewed}
-use Rattle.screen.specs.Asked.{askedOwner, isEnabledOf, hasEnabledRow, hasShownRow, turnsText, turnsEnabled}
+use Rattle.screen.specs.Asked.{isAsked, askedOwner, isEnabledOf, hasEnabledRow, hasShownRow, turnsText, turnsEnabled}
 
 abbrev pub askedAt : (identifier : ℕ) (help : Bool) → held.Row → Bool
 askedAt i help x = x .identifier == i && x .enabled && (x .help || not help)
 
--- the owner of the first row that is asked for, of those from an index on
-abbrev pub askedFrom : (identifier : ℕ) (help : Bool) → Rows → (from : ℕ) → ℕ
-askedFrom i help s n = first (askedAt i help) blank (drop n (s .at)) .owner
+-- a search for the row that is asked for has found it, or come to the end of the rows
+module _ (s : Rows) (long : s .count ≤ length (s .at)) (i : ℕ) (help : Bool) where
+  asked-is : first (askedAt i help) blank (take (s .count) (s .at)) .owner ≡ askedOwner i help (viewRows s)
+  unfolding viewRow viewRows storedRow askedOwner
+  asked-is = ap (λ (r : Row). r .owner) (map-first viewRow (isAsked i help) blank (take (s .count) (s .at)))
 
--- the array is searched from its end, behind the rows, where none is asked for
-module _ (s : Rows) (t : TidyRows s) (i : ℕ) (help : Bool) where
-  pub asked-none : 0 ≡ askedFrom i help s 12
+  from-index : (k : ℕ) → indexOf (askedAt i help) (take (s .count) (s .at)) ≡ k → getD (take (s .count) (s .at)) k blank .owner ≡ askedOwner i help (viewRows s)
+  from-index k e = ap (λ (j : ℕ). getD (take (s .count) (s .at)) j blank .owner) (sym e) ∙ ap (λ (x : held.Row). x .owner) (sym (first-is (askedAt i help) (take (s .count) (s .at)) blank)) ∙ asked-is
+
+  pub asked-hit : (k : ℕ) (d : held.Row) → k < s .count → askedAt i help (getD (s .at) k d) ≡ true → Sought (askedAt i help) (s .at) (s .count) k → getD (s .at) k d .owner ≡ askedOwner i help (viewRows s)
+  asked-hit k d h e o =
+      let x : getD (take (s .count) (s .at)) k blank ≡ getD (s .at) k d = getD-take (s .count) (s .at) k blank h ∙ getD-any (s .at) k blank d (omega arith) in
+      ap (λ (x : held.Row). x .owner) (sym x) ∙ from-index k (sought-hit (askedAt i help) (s .at) (s .count) long k d h e o)
+
+  pub asked-end : (k : ℕ) → s .count ≤ k → Sought (askedAt i help) (s .at) (s .count) k → 0 ≡ askedOwner i help (viewRows s)
   unfolding storedRow
-  asked-none =
-      let l = long s t in
-      back-none (askedAt i help) blank (λ (x : held.Row). x .owner) (s .at) 12 (omega arith)
-
-  pub asked-more
-      : (n : ℕ) (d : held.Row) {o x : ℕ} → 0 < n → n ≤ 12 → o ≡ askedFrom i help s n
-      → x ≡ (if askedAt i help (getD (s .at) (n - 1) d) then getD (s .at) (n - 1) d .owner else o)
-      → x ≡ askedFrom i help s (n - 1)
-  asked-more n d from to e f =
-      let l = long s t in
-      let back : n ≡ n - 1 + 1 = omega arith in
-      f ∙ back-more (askedAt i help) blank (λ (x : held.Row). x .owner) (s .at) (n - 1) d (omega arith) (e ∙ ap (askedFrom i help s) back)
-
-  pub asked-all : {n k : ℕ} → k ≡ 0 → n ≡ askedFrom i help s k → n ≡ askedOwner i help (viewRows s)
-  unfolding storedRow askedOwner
-  asked-all z e =
-      e
-      ∙ ap (askedFrom i help s) z
-      ∙ ap (λ (l : List held.Row). first (askedAt i help) blank l .owner) (at-is s t)
-      ∙ ap (λ (x : held.Row). x .owner) (first-padded (askedAt i help) blank 12 (map storedRow (viewRows s)))
-      ∙ sym (ap (λ (x : held.Row). x .owner) (map-first storedRow (askedAt i help) noRow (viewRows s)))
+  asked-end k h o =
+      let f : length (take (s .count) (s .at)) ≤ k = rw (length-take-le (s .count) (s .at) long) h in
+      ap (λ (x : held.Row). x .owner) (sym (List·getD-eq-default (take (s .count) (s .at)) blank f)) ∙ from-index k (sought-end (askedAt i help) (s .at) (s .count) k long h o)
 
 abbrev pub enabledOf : (applet : ℕ) → held.Row → Bool
 enabledOf n x = x .owner == n && x .enabled

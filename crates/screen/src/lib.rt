@@ -19,31 +19,22 @@ fn is_asked(row: Row, identifier: u8, help: bool) -> bool
     named & row.enabled & helps
 }
 
-// The row's owner, if a choice counts for it; else the one found behind it.
-fn owner_or(row: Row, identifier: u8, help: bool, behind: u8) -> u8
-    ensures { λ r. ⌜ r ≡ (if row .identifier == identifier && row .enabled && (row .help || not help) then row .owner else behind) ⌝ }
-{
-    let is = is_asked(row, identifier, help);
-    if is {
-        return row.owner;
-    }
-    behind
-}
-
 // The applet that a menu choice is for, or a request for help: the owner of the row for which it counts; 0 where there is none.
 pub fn asked_owner(rows: Rows, identifier: u8, help: bool) -> u8
     requires { ⌜ TidyRows rows ⌝ }
     ensures { λ r. ⌜ r ≡ askedOwner identifier help (viewRows rows) ⌝ }
 {
-    let mut owner: u8 = 0;
-    let mut i = Rows::MOST;
-    while 0 < i {
-        i -= 1;
+    let n = rows.count as usize;
+    let mut i = 0;
+    while i < n {
         let row = rows.at[i];
-        let next = owner_or(row, identifier, help, owner);
-        owner = next;
+        let is = is_asked(row, identifier, help);
+        if is {
+            return row.owner;
+        }
+        i += 1;
     }
-    owner
+    0
 }
 
 // The row is the applet's, and enabled.

@@ -3,7 +3,7 @@
 use Prim.Native.Nat.{_-_}
 use borrow.Author.Needs.{needs}
 use Rattle.downloads.specs.Turns.{isListened}
-use Rattle.downloads.proofs.Trying.{Joining, joining-none, joining-more, joining-all}
+use Rattle.downloads.proofs.Places.{Joining, joining-none, joining-more, joining-all}
 use Rattle.downloads.proofs.any_listened.Statement.{statement}
 use Rattle.downloads.proofs.any_listened.Tie as tie
 

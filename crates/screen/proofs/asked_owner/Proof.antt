@@ -1,24 +1,26 @@
--- `asked_owner` meets its contract: the loop goes from the last row to the first, and has the owner of the first asked for of those it passed.
+-- `asked_owner` meets its contract. The invariant: a choice counts for none of the first i rows.
 -- Assumes nothing.
-use Prim.Native.Nat.{_≤_}
+use Prim.Native.Nat.{_-_}
+use mathlib.Core.Path.{sym, _∙_}
 use native.Mathlib.Omega.{arith}
-use mathlib.Core.Path.{_≡_}
+use Rattle.lists.proofs.Search.{Sought, sought-none, sought-more}
+use Rattle.menu.proofs.Tidy.{long}
+use Rattle.screen.proofs.Answers.{askedAt, asked-hit, asked-end}
 use borrow.Author.Needs.{needs}
-use Rattle.screen.proofs.Answers.{askedFrom, asked-none, asked-more, asked-all}
 use Rattle.screen.proofs.asked_owner.Statement.{statement}
 use Rattle.screen.proofs.asked_owner.Tie as tie
 
 abbrev Inv-loop : tie.InvT-loop
-Inv-loop identifier help rows owner₀ i₀ owner i = (i ≤ 12) × (owner ≡ askedFrom identifier help rows i)
+Inv-loop identifier help rows n i₀ i = Sought (askedAt identifier help) (rows .at) n i
 
 abbrev μ-loop : tie.MeasureT-loop
-μ-loop identifier help rows owner₀ i₀ owner i = i
+μ-loop identifier help rows n i₀ i = n - i
+
+cast-n : tie.Need-cast-n Inv-loop μ-loop
+cast-n c = search needs
 
 loop-holds : tie.Need-loop-holds Inv-loop μ-loop
-loop-holds c = (omega arith, asked-none _ (c .pre) (c .args .identifier) (c .args .help))
-
-sub-i : tie.Need-sub-i Inv-loop μ-loop
-sub-i c = search needs
+loop-holds c = sought-none _ _ _
 
 mul-row : tie.Need-mul-row Inv-loop μ-loop
 mul-row c = search needs
@@ -26,25 +28,32 @@ mul-row c = search needs
 element-copy-out-row : tie.Need-element-copy-out-row Inv-loop μ-loop
 element-copy-out-row c = search needs
 
-owner-or-requires : tie.Need-owner-or-requires Inv-loop μ-loop
-owner-or-requires c κs = search needs
+is-asked-requires : tie.Need-is-asked-requires Inv-loop μ-loop
+is-asked-requires c κs = search needs
+
+returns : tie.Need-returns Inv-loop μ-loop
+returns c =
+    let b = c .before .before .before .before in
+    let l = long _ (b .before .pre) in
+    asked-hit _ (omega arith) _ _ _ _ (search needs) (sym (c .before .is-asked .ensures) ∙ c .if1 .taken) (b .loop .inv)
+
+add-i : tie.Need-add-i Inv-loop μ-loop
+add-i c = search needs
 
 loop-less : tie.Need-loop-less Inv-loop μ-loop
 loop-less c = search needs
 
 loop-again : tie.Need-loop-again Inv-loop μ-loop
 loop-again c =
-    let b = c .before .before in
-    let a = b .before in
-    let g = a .before .args in
-    (search needs, asked-more _ (a .before .pre) (g .identifier) (g .help) _ _ (b .loop-test .taken) (a .loop .inv .0) (a .loop .inv .1) (c .owner-or .ensures))
+    let b = c .before .before .before .before in
+    let l = long _ (b .before .pre) in
+    sought-more _ _ _ (omega arith) _ _ (search needs) (sym (c .before .is-asked .ensures) ∙ c .if1 .left) (b .loop .inv)
 
-returns : tie.Need-returns Inv-loop μ-loop
-returns c =
+returns-2 : tie.Need-returns-2 Inv-loop μ-loop
+returns-2 c =
     let b = c .before in
-    let g = b .before .args in
-    let z : b .loop .i ≡ 0 = omega arith in
-    asked-all _ (b .before .pre) (g .identifier) (g .help) z (b .loop .inv .1)
+    let l = long _ (b .before .pre) in
+    asked-end _ (omega arith) _ _ _ (search needs) (b .loop .inv)
 
 pub asked-owner-spec : {M : Type 1} → statement M
 asked-owner-spec =
@@ -52,11 +61,13 @@ asked-owner-spec =
     (tie.spec
     Inv-loop
     μ-loop
+    cast-n
     loop-holds
-    sub-i
     mul-row
     element-copy-out-row
-    owner-or-requires
+    is-asked-requires
+    returns
+    add-i
     loop-less
     loop-again
-    returns)
+    returns-2)
