@@ -1,204 +1,139 @@
--- The reader's answer, from the parts that were read and what the tests said.
+-- The reader's answer: a menu that the bytes are the command of, or none.
 -- Assumes nothing.
-use Prim.Native.Nat.{ℕ, zero, suc, _+_, _-_, _≤_, _<_}
+use Prim.Native.Nat.{ℕ, _+_, _-_, _≤_, _<_}
 use native.Mathlib.Omega.{arith}
 use mathlib.Core.Path.{_≡_, refl, sym, ap, _∙_}
 use mathlib.Core.Bool.{Bool, true, false, not, _&&_}
-use mathlib.Core.List.{List, [], _∷_, map}
-use lib.ListN.{length, take, drop, length-take, length-drop}
-use lib.Seq.{getD-drop, drop-drop}
-use lib.Dec.{eqb·suc-zero}
-use borrow.Author.Tests.{le-leb, lt-leb}
-use Rattle.lists.specs.Tests.{if_then_else_, _==_, _≤?_}
-use Rattle.lists.specs.Lists.{padded, every?, some?, repeats?, empty?, same?, keep}
-use Rattle.lists.proofs.Truth.{and-false}
-use Rattle.lists.proofs.Mapped.{map-length}
-use Rattle.lists.proofs.Walk.{take-taken}
+use mathlib.Core.List.{List, [], _∷_, _++_, map}
+use lib.ListN.{length, take, drop, length-append, length-drop, take-append-drop}
+use lib.Seq.{drop-drop, drop-at, drop-length, length-take-le}
+use borrow.Author.Tests.{le-leb, leb-true, not-true}
+use Rattle.lists.specs.Tests.{_==_, _≤?_}
+use Rattle.lists.specs.Lists.{every?, repeats?, empty?, gather, padded}
+use Rattle.lists.proofs.Decided.{both}
 use Rattle.rules.specs.declared.Item as held-item
 use Rattle.rules.specs.declared.Menu as held-menu
-use Rattle.rules.specs.declared.Rows.{Rows}
-use Rattle.rules.specs.Holds.{Row, document}
+use Rattle.rules.specs.Holds.{document}
 use Rattle.rules.specs.Bytes.{byte}
-use Rattle.rules.specs.Commands.{Item, Menu, menuOf, menuBytes, readItems, partsOf, valueOf, readMenu, properItem, mayStand, isMenu}
+use Rattle.rules.specs.Commands.{Item, Menu, itemBytes, itemsBytes, menuBytes, readMenu, properItem, mayStand, isMenu}
 use Rattle.rules.specs.Refusals.{lowest}
 use Rattle.rules.specs.Beside.{readBy, menuReader}
-use Rattle.rules.specs.Held.{viewRows, storedRows, storedItem, storedMenu}
-use Rattle.rules.proofs.Held.{rows-back}
-use Rattle.sets.specs.Sets.{has?, digits}
-use Rattle.screen.specs.Asked.{isShown}
-use Rattle.command.specs.Fits.{itemsOf, shownOf, Fits}
-use Rattle.menu.proofs.Tidy.{tidy-stored}
+use Rattle.rules.specs.Held.{storedItem, storedMenu}
+use Rattle.rules.proofs.Reader.{read-back, accepts, only-written}
 use Rattle.reader.specs.declared.Parsed.{Parsed}
-use Rattle.reader.specs.Reads.{noItem, refused, rowFor, identifiers, itemsAt, mayStay, ItemsRead}
-use Rattle.reader.proofs.Lists.{drop-taken}
-use Rattle.reader.proofs.Items.{short-items}
+use Rattle.reader.specs.Reads.{noItem, refused, identifiers, Stay, TitleAt, ItemsAt, ItemsRead}
+use Rattle.reader.proofs.Front.{help-is, title-size, behind-front, put-together}
+use Rattle.reader.proofs.Lists.{part-held}
 
--- what the verdict makes of the answer
-pub refuse : (s : List ℕ) → isMenu document s ≡ false → refused ≡ menuReader document s
-unfolding menuReader lowest readBy
-refuse s e = rw e refl
+-- the parts of a menu that may stand
+pub record Stands (m : Menu) : Type 0 where
+  pub title : length (m .title) ≤ 20
+  pub items : Stay (m .items)
+  pub marked : (m .help && empty? (m .items)) ≡ false
 
-pub accept : (s : List ℕ) → isMenu document s ≡ true → record { refusal = 0; menu = readMenu document s } ≡ menuReader document s
-unfolding menuReader lowest readBy
-accept s e = rw e refl
-
--- at most so many items are read
-read-most : (j : ℕ) (t : List ℕ) → length (readItems j t) ≤ j
-unfolding readItems
-read-most zero t = omega arith
-read-most (suc j) t = go (byte t 1 == 0) (read-most j (drop (byte t 1 - 1) (drop 3 t)))
-  where
-    go : (b : Bool) → length (readItems j (drop (byte t 1 - 1) (drop 3 t))) ≤ j
-        → length (if b then [] else record { identifier = byte t 2; text = take (byte t 1 - 1) (drop 3 t) } ∷ readItems j (drop (byte t 1 - 1) (drop 3 t))) ≤ suc j
-    go true h = omega arith
-    go false h = omega arith
-
-pub few-items : (s : List ℕ) (at : ℕ) → length (itemsAt s at) ≤ 12
-unfolding itemsAt
-few-items s at = read-most 12 (drop at s)
-
-stand : (m : Menu) → length (m .items) ≤ 12 → mayStand document m ≡ (length (m .title) ≤? 20 && (mayStay (m .items) && not (m .help && empty? (m .items))))
-unfolding mayStand mayStay
-stand m h = rw (le-leb (length (m .items)) 12 h) (go (length (m .title) ≤? 20) (every? (properItem document) (m .items)) (not (repeats? (identifiers (m .items)) [])) (not (m .help && empty? (m .items))))
-  where
-    go : (a c d e : Bool) → (a && true && c && d && e) ≡ (a && ((c && d) && e))
-    go true c d e = refl
-    go false c d e = refl
-
--- the rows that the items are written again from
-some-help : (help : Bool) (l : List Item) → some? (λ (r : Row). r .help) (map (rowFor help) l) ≡ (help && not (empty? l))
-unfolding some? empty?
-some-help true [] = refl
-some-help true (x ∷ l) = refl
-some-help false [] = refl
-some-help false (x ∷ l) = some-help false l
-
-pub items-again : (help : Bool) (l : List Item) → itemsOf (map (rowFor help) l) ≡ l
-items-again help [] = refl
-items-again help (x ∷ l) = ap (λ (k : List Item). x ∷ k) (items-again help l)
-
-pub written : (title : List ℕ) (help : Bool) (l : List Item) → (help && empty? l) ≡ false → menuOf title (map (rowFor help) l) ≡ record { title = title; help = help; items = l }
-unfolding menuOf
-written title help l e = rw (some-help help l, items-again help l, marked help (empty? l) e) refl
-  where
-    marked : (a b : Bool) → (a && b) ≡ false → (a && not b) ≡ a
-    marked true b e = rw e refl
-    marked false b e = refl
-
--- the value starts behind two bytes or three
-pub value-most : (s : List ℕ) {v : ℕ} → v ≡ (if byte s 1 == 0x81 then 3 else 2) → v ≤ 3
-value-most s {v} = go (byte s 1 == 0x81)
-  where
-    go : (b : Bool) → v ≡ (if b then 3 else 2) → v ≤ 3
-    go true e = omega arith
-    go false e = omega arith
-
--- the rows are all shown where applet 1 is selectable
-kept-all : (help : Bool) (l : List Item) → keep (isShown 1) (map (rowFor help) l) ≡ map (rowFor help) l
-unfolding keep has? digits
-kept-all help [] = refl
-kept-all help (i ∷ l) = ap (λ (k : List Row). rowFor help i ∷ k) (kept-all help l)
-
-pub all-shown : {s : List ℕ} {at : ℕ} {help : Bool} {r : Parsed} → ItemsRead s at help r → r .ok ≡ true → shownOf 1 (r .rows) ≡ viewRows (r .rows)
-all-shown {s} {at} {help} o e = let l = itemsAt s at in rw (o .rows e, rows-back (map (rowFor help) l)) (kept-all help l)
-
--- the rows fit in a command
-pub rows-fit : (help : Bool) (l : List Item) → length l ≤ 12 → mayStay l ≡ true → Fits (storedRows (map (rowFor help) l))
-rows-fit help l h e =
+pub stands-of : (m : Menu) → mayStand document m ≡ true → Stands m
+unfolding mayStand
+stands-of m e =
+    let t = length (m .title) ≤? 20 in
+    let n = length (m .items) ≤? 12 in
+    let p = every? (properItem document) (m .items) in
+    let a = both (t && n && p && not (repeats? (identifiers (m .items)) [])) (not (m .help && empty? (m .items))) e in
+    let b = both (t && n && p) (not (repeats? (identifiers (m .items)) [])) (a .0) in
+    let c = both (t && n) p (b .0) in
+    let d = both t n (c .0) in
     record {
-      tidy = tidy-stored (map (rowFor help) l) (omega (arith, map-length (rowFor help) l));
-      short = rw (rows-back (map (rowFor help) l)) (short-items help l e);
+      title = leb-true (length (m .title)) 20 (d .0);
+      items = record { few = leb-true (length (m .items)) 12 (d .1); each = c .1; apart = not-true _ (b .1) };
+      marked = not-true _ (a .1);
     }
 
-module _ (s : List ℕ) {v q t start len : ℕ} {help : Bool} (ev : v ≡ (if byte s 1 == 0x81 then 3 else 2)) (eq : q ≡ byte s (v + 4)) (eh : help ≡ not (q == 0)) (et : t ≡ byte s (v + 10)) (es : start ≡ length (take (v + 11) s)) (el : len ≡ length (take t (drop start s))) where
-  value : valueOf s ≡ drop v s
-  unfolding valueOf
-  value = go (byte s 1 == 0x81) ev
-    where
-      go : (b : Bool) → v ≡ (if b then 3 else 2) → (if b then drop 3 s else drop 2 s) ≡ drop v s
-      go true e = rw e refl
-      go false e = rw e refl
+may-stand : (m : Menu) → Stands m → mayStand document m ≡ true
+unfolding mayStand
+may-stand m h = rw (le-leb (length (m .title)) 20 (h .title), le-leb (length (m .items)) 12 (h .items .few), h .items .each, h .items .apart, h .marked) refl
 
-  starts : drop 11 (drop v s) ≡ drop start s
-  starts = drop-drop 11 v s ∙ sym (drop-taken (v + 11) s) ∙ ap (λ (k : ℕ). drop k s) (sym es)
+-- what the verdict makes of the answer
+pub unread : (s : List ℕ) → isMenu document s ≡ false → refused ≡ menuReader document s
+unfolding menuReader lowest readBy
+unread s e = rw e refl
 
-  pub title-of : take len (drop start s) ≡ take t (drop start s)
-  title-of = ap (λ (k : ℕ). take k (drop start s)) el ∙ take-taken t (drop start s)
+as-read : (s : List ℕ) → isMenu document s ≡ true → record { refusal = 0; menu = readMenu document s } ≡ menuReader document s
+unfolding menuReader lowest readBy
+as-read s e = rw e refl
 
-  pub title-size : length (take len (drop start s)) ≡ len
-  title-size = ap length title-of ∙ sym el
+-- bytes that are the command of no menu that may stand
+pub refuse : (s : List ℕ) → ((m : Menu) → Stands m → menuBytes m ≡ s → ⊥) → refused ≡ menuReader document s
+refuse s f = go (isMenu document s) refl
+  where
+    go : (b : Bool) → isMenu document s ≡ b → refused ≡ menuReader document s
+    go true e = let o = only-written document s e in absurd (f (readMenu document s) (stands-of _ (o .0)) (o .1))
+    go false e = unread s e
 
-  behind : drop t (drop start s) ≡ drop (start + len) s
-  behind = sym (drop-taken t (drop start s)) ∙ ap (λ (k : ℕ). drop k (drop start s)) (sym el) ∙ drop-drop len start s
+-- bytes that are the command of one
+pub accept : (s : List ℕ) (m : Menu) → Stands m → menuBytes m ≡ s → record { refusal = 0; menu = m } ≡ menuReader document s
+accept s m h e =
+    let a : isMenu document s ≡ true = ap (isMenu document) (sym e) ∙ accepts document m (may-stand m h) in
+    let r : readMenu document s ≡ m = ap (readMenu document) (sym e) ∙ read-back document m (h .items .few) in
+    ap (λ (x : Menu). record { refusal = 0; menu = x }) (sym r) ∙ as-read s a
 
-  -- what is read stands within the bytes
-  pub ends : start + len ≤ length s
-  ends = omega (arith, es, el, length-take (v + 11) s, length-take t (drop start s), length-drop start s)
+pub no-title : {s : List ℕ} {t : ℕ} → TitleAt s t → t ≡ 0 → refused ≡ menuReader document s
+no-title {s} o z = refuse s (λ m h e. o .none z m e)
 
-  -- what the bytes would say
-  pub says : readMenu document s ≡ record { title = take len (drop start s); help = help; items = itemsAt s (start + len) }
-  unfolding readMenu partsOf itemsAt
-  says =
-      let a : byte (drop v s) 10 ≡ t = getD-drop v s 10 0 ∙ sym et in
-      let b : byte (drop v s) 4 ≡ q = getD-drop v s 4 0 ∙ sym eq in
-      rw (value, a, b, starts, sym title-of, behind, eh) refl
+-- items take bytes
+some-items : (l : List Item) → 1 ≤ length (itemsBytes l)
+unfolding itemsBytes empty? gather itemBytes
+some-items [] = omega arith
+some-items (x ∷ l) = omega arith
 
-  verdict-is : isMenu document s ≡ (len ≤? 20 && (mayStay (itemsAt s (start + len)) && not (help && empty? (itemsAt s (start + len)))) && same? (menuBytes (record { title = take len (drop start s); help = help; items = itemsAt s (start + len) })) s)
-  unfolding isMenu
-  verdict-is =
-      rw says (ap (λ (b : Bool). b && same? (menuBytes (record { title = take len (drop start s); help = help; items = itemsAt s (start + len) })) s)
-      (stand (record { title = take len (drop start s); help = help; items = itemsAt s (start + len) }) (few-items s (start + len)) ∙ ap (λ (n : ℕ). n ≤? 20 && (mayStay (itemsAt s (start + len)) && not (help && empty? (itemsAt s (start + len))))) title-size))
+module _ {s : List ℕ} {t : ℕ} (o : TitleAt s t) (z : t ≡ 0 → ⊥) where
+  abbrev pub mark : Bool
+  mark = not (byte s (t - 7) == 0)
 
-  pub long-title : 20 < len → refused ≡ menuReader document s
-  long-title h = refuse s (verdict-is ∙ rw (lt-leb len 20 h) refl)
+  abbrev pub size : ℕ
+  size = byte s (t - 1)
 
-  pub bad-items : mayStay (itemsAt s (start + len)) ≡ false → refused ≡ menuReader document s
-  bad-items e = refuse s (verdict-is ∙ rw (e, and-false (len ≤? 20)) refl)
+  said : (m : Menu) → menuBytes m ≡ s → (mark ≡ m .help) × (size ≡ length (m .title)) × (drop t s ≡ m .title ++ itemsBytes (m .items))
+  said m e = let f = o .some z .0 in (help-is s m e mark size (drop t s) f, title-size s m e mark size (drop t s) f, behind-front s m e mark size (drop t s) f)
 
-  module _ {rows : Rows} (er : rows ≡ storedRows (map (rowFor help) (itemsAt s (start + len)))) where
-    pub count-of : rows .count ≡ length (itemsAt s (start + len))
-    unfolding storedRows
-    count-of = ap (λ (r : Rows). r .count) er ∙ map-length (rowFor help) (itemsAt s (start + len))
+  pub long-title : 20 < size → refused ≡ menuReader document s
+  long-title h = refuse s (λ m p e. omega (arith, said m e .1, p .title))
 
-    none-is : (rows .count == 0) ≡ empty? (itemsAt s (start + len))
-    none-is = ap (λ (n : ℕ). n == 0) count-of ∙ go (itemsAt s (start + len))
+  pub no-room : length s ≤ t + size → refused ≡ menuReader document s
+  no-room h = refuse s (λ m p e. omega (arith, said m e .1, ap length (said m e .2), length-append (m .title) (itemsBytes (m .items)), some-items (m .items), length-drop t s))
+
+  module _ (short : size ≤ 20) (room : t + size < length s) {from : ℕ} (i : ItemsAt s (t + size) mark from) {r : Parsed} (w : ItemsRead s from r) where
+    pub bad-items : (r .end ≡ length s → ⊥) → refused ≡ menuReader document s
+    bad-items h = refuse s (λ m p e. h (w .only (m .items) (p .items) (i .only (m .items) (marked m p e) (behind m e))))
       where
-        go : (l : List Item) → (length l == 0) ≡ empty? l
-        go [] = unfold empty? in refl
-        go (x ∷ l) = unfold empty? in eqb·suc-zero (length l)
+        marked : (m : Menu) → Stands m → menuBytes m ≡ s → (mark && empty? (m .items)) ≡ false
+        marked m p e = ap (λ (b : Bool). b && empty? (m .items)) (said m e .0) ∙ p .marked
 
-    pub lone-help : (help && rows .count == 0) ≡ true → refused ≡ menuReader document s
-    lone-help e =
-        let f : (help && empty? (itemsAt s (start + len))) ≡ true = ap (λ (b : Bool). help && b) (sym none-is) ∙ e in
-        refuse s (verdict-is ∙ rw (f, and-false (mayStay (itemsAt s (start + len))), and-false (len ≤? 20)) refl)
+        behind : (m : Menu) → menuBytes m ≡ s → itemsBytes (m .items) ≡ drop (t + size) s
+        behind m e = sym (drop-at (m .title) (itemsBytes (m .items)) size (sym (said m e .1))) ∙ ap (drop size) (sym (said m e .2)) ∙ drop-drop size t s
 
-    module _ (no-lone : (help && rows .count == 0) ≡ false) {title : List ℕ} (ti : title ≡ take len (drop start s)) {w : Bool} (ew : w ≡ same? (menuBytes (menuOf title (viewRows rows))) s) where
-      none-alone : (help && empty? (itemsAt s (start + len))) ≡ false
-      none-alone = ap (λ (b : Bool). help && b) (sym none-is) ∙ no-lone
+    module _ (ends : r .end ≡ length s) where
+      abbrev menu : Menu
+      menu = record { title = take size (drop t s); help = mark; items = w .done }
 
-      again : menuOf title (viewRows rows) ≡ record { title = take len (drop start s); help = help; items = itemsAt s (start + len) }
-      again =
-          ap (λ (l : List ℕ). menuOf l (viewRows rows)) ti
-          ∙ ap (λ (r : Rows). menuOf (take len (drop start s)) (viewRows r)) er
-          ∙ ap (menuOf (take len (drop start s))) (rows-back (map (rowFor help) (itemsAt s (start + len))))
-          ∙ written (take len (drop start s)) help (itemsAt s (start + len)) none-alone
+      title-long : length (take size (drop t s)) ≡ size
+      title-long = length-take-le size (drop t s) (omega (arith, length-drop t s))
 
-      compared : w ≡ same? (menuBytes (record { title = take len (drop start s); help = help; items = itemsAt s (start + len) })) s
-      compared = ew ∙ ap (λ (m : Menu). same? (menuBytes m) s) again
+      found : (itemsBytes (w .done) ≡ drop (t + size) s) × ((mark && empty? (w .done)) ≡ false)
+      found = i .behind (w .done) (sym (append-none (gather itemBytes (w .done)) (ap (λ (n : ℕ). drop n s) ends ∙ drop-length s)) ∙ w .bytes)
+        where
+          append-none : (l : List ℕ) {k : List ℕ} → k ≡ [] → l ++ k ≡ l
+          append-none [] e = e
+          append-none (x ∷ l) e = ap (λ (j : List ℕ). x ∷ j) (append-none l e)
 
-      pub not-written : w ≡ false → refused ≡ menuReader document s
-      not-written e = refuse s (verdict-is ∙ rw (sym compared ∙ e) (and-false (len ≤? 20 && (mayStay (itemsAt s (start + len)) && not (help && empty? (itemsAt s (start + len)))))))
+      accepted : record { refusal = 0; menu = menu } ≡ menuReader document s
+      accepted =
+          accept s menu (record { title = omega (arith, title-long); items = w .stay; marked = found .1 }) (put-together menu (o .some z .0) (sym title-long)
+          (sym (take-append-drop size (drop t s)) ∙ ap (λ (l : List ℕ). take size (drop t s) ++ l) (drop-drop size t s ∙ sym (found .0))))
 
       pub is-read
-          : len ≤ 20 → mayStay (itemsAt s (start + len)) ≡ true → w ≡ true
-          → {text : List ℕ} → text ≡ padded 20 0 title → {at : List held-item.Item} → at ≡ padded 12 (storedItem noItem) (map storedItem (itemsOf (viewRows rows)))
-          → _≡_ {A = held-menu.Menu} (record { refusal = 0; title = text; «title_len» = len; help = help; at = at; count = rows .count }) (storedMenu (menuReader document s))
+          : {text : List ℕ} → text ≡ padded 20 0 (take 20 (take (t + size - t) (drop t s)))
+          → _≡_ {A = held-menu.Menu} (record { refusal = 0; title = text; «title_len» = size; help = mark; at = r .at; count = r .count }) (storedMenu (menuReader document s))
       unfolding storedMenu
-      is-read h e f {text} et {at} ea =
-          let k : itemsOf (viewRows rows) ≡ itemsAt s (start + len) = ap (λ (r : Rows). itemsOf (viewRows r)) er ∙ ap itemsOf (rows-back (map (rowFor help) (itemsAt s (start + len)))) ∙ items-again help (itemsAt s (start + len)) in
-          let y : isMenu document s ≡ true = verdict-is ∙ rw (le-leb len 20 h, e, none-alone, sym compared ∙ f) refl in
-          rw (et, ti, ea, k, count-of) (stored-is (sym title-size)) ∙ ap storedMenu (ap (λ (m : Menu). record { refusal = 0; menu = m }) (sym says) ∙ accept s y)
+      is-read {text} e = rw (e, part-held t size 20 (drop t s) short, w .at, w .count) (stored (sym title-long)) ∙ ap storedMenu accepted
         where
-          stored-is : {n : ℕ} → n ≡ length (take len (drop start s))
-              → _≡_ {A = held-menu.Menu} (record { refusal = 0; title = padded 20 0 (take len (drop start s)); «title_len» = n; help = help; at = padded 12 (storedItem noItem) (map storedItem (itemsAt s (start + len))); count = length (itemsAt s (start + len)) }) (storedMenu (record { refusal = 0; menu = record { title = take len (drop start s); help = help; items = itemsAt s (start + len) } }))
-          stored-is e = unfold storedMenu in rw e refl
+          stored : {n : ℕ} → n ≡ length (take size (drop t s)) → _≡_ {A = held-menu.Menu} (record { refusal = 0; title = padded 20 0 (take size (drop t s)); «title_len» = n; help = mark; at = padded 12 (storedItem noItem) (map storedItem (w .done)); count = length (w .done) }) (storedMenu (record { refusal = 0; menu = menu }))
+          stored q = rw q refl

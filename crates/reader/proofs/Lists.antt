@@ -1,17 +1,16 @@
 -- Lists that grow at the end: each of them passes, no number stands twice; and the part of a list that is there.
 -- Assumes nothing.
-use Prim.Native.Nat.{ℕ, zero, suc, _+_, _-_, _≤_}
+use Prim.Native.Nat.{ℕ, _+_, _-_, _≤_}
 use native.Mathlib.Omega.{arith}
 use mathlib.Core.Path.{_≡_, refl, sym, ap, _∙_}
 use mathlib.Core.Bool.{Bool, true, false, _&&_, _||_}
 use mathlib.Core.List.{List, [], _∷_, _++_}
-use lib.ListN.{length, take, drop, length-take}
+use lib.ListN.{length, take, length-take}
 use lib.Seq.{take-all}
 use Rattle.lists.specs.Tests.{_==_}
 use Rattle.lists.specs.Lists.{every?, some?, in?, repeats?}
-use Rattle.lists.proofs.Truth.{or-false, or-true}
-use Rattle.lists.proofs.Decided.{turned}
-use Rattle.lists.proofs.Decided.{neither, clashing}
+use Rattle.lists.proofs.Truth.{and-left, and-right, or-false, or-true}
+use Rattle.lists.proofs.Decided.{neither, clashing, turned}
 use Rattle.lists.proofs.Firsts.{some-append}
 
 -- a part from a to a + n is no longer than n, and is held whole where it fits
@@ -24,12 +23,6 @@ part-held a n most l h =
     take-all most (take (a + n - a) l) (part-most a n most l h) ∙ ap (λ (k : ℕ). take k l) e
 
 module _ {A : Type 0} where
-  -- what is not there is not passed over
-  pub drop-taken : (n : ℕ) (l : List A) → drop (length (take n l)) l ≡ drop n l
-  drop-taken zero l = refl
-  drop-taken (suc n) [] = refl
-  drop-taken (suc n) (x ∷ l) = drop-taken n l
-
   pub each-more : (p : A → Bool) (l : List A) (x : A) → every? p l ≡ true → p x ≡ true → every? p (l ++ (x ∷ [])) ≡ true
   unfolding every?
   each-more p [] x e f = rw f refl
@@ -39,14 +32,10 @@ module _ {A : Type 0} where
       go true e r = r e f
       go false e r = e
 
-  pub each-less : (p : A → Bool) (l : List A) (x : A) (k : List A) → p x ≡ false → every? p (l ++ (x ∷ k)) ≡ false
+  pub each-of : (p : A → Bool) (l : List A) (x : A) (k : List A) → every? p (l ++ (x ∷ k)) ≡ true → p x ≡ true
   unfolding every?
-  each-less p [] x k f = rw f refl
-  each-less p (y ∷ l) x k f = go (p y) (each-less p l x k f)
-    where
-      go : (b : Bool) → every? p (l ++ (x ∷ k)) ≡ false → (b && every? p (l ++ (x ∷ k))) ≡ false
-      go true e = e
-      go false e = refl
+  each-of p [] x k e = and-left (p x) (every? p k) e
+  each-of p (y ∷ l) x k e = each-of p l x k (and-right (p y) (every? p (l ++ (x ∷ k))) e)
 
 -- a number that is not there, at the end
 pub fresh-more : (l : List ℕ) (n : ℕ) → repeats? l [] ≡ false → in? n l ≡ false → repeats? (l ++ (n ∷ [])) [] ≡ false

@@ -1,108 +1,121 @@
-// The menu reader: the parts are taken from where a menu command has them, written again and compared.
-// It accepts exactly what the card can write.
+// The menu reader: every byte is held to what the card would have written there. It accepts exactly what the card can write.
 use rules::Desk;
 use rules::Item;
 use rules::Menu;
 use rules::Row;
 use rules::Rows;
 ghost use mathlib.Core.Path.{_≡_};
-ghost use mathlib.Core.Bool.{_&&_};
-ghost use mathlib.Core.List.{map};
-ghost use Prim.Native.Nat.{_≤_};
-ghost use lib.ListN.{length, take, drop};
-ghost use Rattle.lists.specs.Tests.{if_then_else_, _==_};
-ghost use Rattle.lists.specs.Lists.{padded, same?};
+ghost use Prim.Native.Nat.{_≤_, _<_};
+ghost use lib.ListN.{length};
+ghost use Rattle.lists.specs.Tests.{if_then_else_};
 ghost use Rattle.rules.specs.Holds.{document};
-ghost use Rattle.rules.specs.Bytes.{byte};
-ghost use Rattle.rules.specs.Commands.{menuOf, menuBytes};
 ghost use Rattle.rules.specs.Beside.{menuReader};
-ghost use Rattle.rules.specs.Held.{viewRows, storedItem, storedMenu, TidyRows};
-ghost use Rattle.command.specs.Fits.{itemsOf, shownOf, Fits};
-ghost use Rattle.reader.specs.Reads.{noItem, refused, proper, ItemsRead};
+ghost use Rattle.rules.specs.Held.{storedItem, storedMenu};
+ghost use Rattle.reader.specs.Reads.{noItem, refused, ValueAt, TitleAt, ItemsAt, TextAt, ItemsRead};
 
-// The rows of the items that were read; `ok` tells whether they may stand in a menu.
+// The items that were read, how many they are, and the index behind them.
 pub struct Parsed {
-    pub ok: bool,
-    pub rows: Rows,
+    pub at: [Item; Rows::MOST],
+    pub count: u8,
+    pub end: usize,
 }
 
-// The byte at a position; 0 where there is none.
-fn byte_at(s: &[u8], at: usize) -> u8
-    ensures { λ r. ⌜ r ≡ byte (now (s .entry)) at ⌝ }
+// Where the value of a command starts, behind D0 and its length; 0 where the card would have written others.
+fn value_at(bytes: &[u8]) -> usize
+    ensures { λ r. ⌜ ValueAt (now (bytes .entry)) r ⌝ }
 {
-    if at < s.len() {
-        return s[at];
+    let n = bytes.len();
+    if n < 13 {
+        return 0;
+    }
+    if bytes[0] != 0xD0 {
+        return 0;
+    }
+    if n < 130 {
+        if bytes[1] as usize + 2 == n {
+            return 2;
+        }
+        return 0;
+    }
+    if bytes[1] != 0x81 {
+        return 0;
+    }
+    if n == 130 {
+        return 0;
+    }
+    if bytes[2] as usize + 3 == n {
+        return 3;
     }
     0
 }
 
-// How many of n bytes from a position on are there.
-fn part_len(s: &[u8], at: usize, n: usize) -> usize
-    ensures { λ r. ⌜ r ≡ length (take n (drop at (now (s .entry)))) ⌝ }
+// The qualifier: 80 for the help mark.
+fn qualifier(help: bool) -> u8
+    ensures { λ r. ⌜ r ≡ (if help then 0x80 else 0x00) ⌝ }
 {
-    if s.len() <= at {
+    if help { 0x80 } else { 0x00 }
+}
+
+// Where the title starts, behind its length; 0 where the card would have written other bytes before it.
+fn title_at(bytes: &[u8]) -> usize
+    ensures { λ r. ⌜ TitleAt (now (bytes .entry)) r ⌝ }
+{
+    let v = value_at(bytes);
+    if v == 0 {
         return 0;
     }
-    let left = s.len() - at;
-    if n < left {
-        return n;
+    let q = qualifier(bytes[v + 4] != 0);
+    let len = bytes[v + 10];
+    let at = v + 11;
+    if check::same(
+        &bytes[v..at],
+        &[0x81, 0x03, 0x01, 0x25, q, 0x82, 0x02, 0x81, 0x82, 0x85, len],
+    ) {
+        return at;
     }
-    left
+    0
 }
 
-// Where the value of a command starts: behind a length of one byte or two.
-fn value_at(s: &[u8]) -> usize
-    ensures { λ r. ⌜ r ≡ (if byte (now (s .entry)) 1 == 0x81 then 3 else 2) ⌝ }
+// Where the items start, behind the title that ends here: at the end of the bytes where 8F 00 stands for none.
+fn items_at(bytes: &[u8], end: usize, help: bool) -> usize
+    requires { ⌜ end < length (now bytes) ⌝ }
+    ensures { λ r. ⌜ ItemsAt (now (bytes .entry)) end help r ⌝ }
 {
-    let b = byte_at(s, 1);
-    if b == 0x81 {
-        return 3;
+    if help {
+        return end;
     }
-    2
+    if check::same(&bytes[end..], &[0x8F, 0x00]) {
+        return bytes.len();
+    }
+    end
 }
 
-// An item may have this identifier and a text of this length.
-fn is_proper(identifier: u8, len: usize) -> bool
-    ensures { λ r. ⌜ r ≡ proper identifier len ⌝ }
-{
-    if identifier == 0 {
-        return false;
-    }
-    if len == 0 {
-        return false;
-    }
-    len <= Row::TEXT
-}
-
-// The items from a position on, as rows of applet 1 with this help mark.
-fn read_rows(bytes: &[u8], at: usize, help: bool) -> Parsed
+// How long the text of the item at a position is; 0 where none stands there that the card could have written.
+fn text_len(bytes: &[u8], at: usize) -> usize
     requires { ⌜ at ≤ length (now bytes) ⌝ }
-    ensures { λ r. ⌜ ItemsRead (now (bytes .entry)) at help r ⌝ }
+    ensures { λ r. ⌜ TextAt (now (bytes .entry)) at r ⌝ }
 {
-    let mut rows = menu::no_rows();
-    let mut next = at;
-    let mut k: usize = 0;
-    while k < Rows::MOST {
-        let n = byte_at(bytes, next + 1) as usize;
-        if n == 0 {
-            return Parsed { ok: true, rows };
-        }
-        let identifier = byte_at(bytes, next + 2);
-        let from = next + 3;
-        let len = part_len(bytes, from, n - 1);
-        if !is_proper(identifier, len) {
-            return Parsed { ok: false, rows };
-        }
-        if menu::find(rows, identifier) < k {
-            return Parsed { ok: false, rows };
-        }
-        let end = from + len;
-        let row = rows::row_of(identifier, 1, help, &bytes[from..end]);
-        rows = menu::inserted(rows, 0, row);
-        next = end;
-        k += 1;
+    let left = bytes.len() - at;
+    if left < 4 {
+        return 0;
     }
-    Parsed { ok: true, rows }
+    if bytes[at] != 0x8F {
+        return 0;
+    }
+    if bytes[at + 2] == 0 {
+        return 0;
+    }
+    let n = bytes[at + 1] as usize;
+    if n == 0 {
+        return 0;
+    }
+    if Row::TEXT + 1 < n {
+        return 0;
+    }
+    if left < n + 2 {
+        return 0;
+    }
+    n - 1
 }
 
 // The item that stands where there is none.
@@ -116,27 +129,51 @@ fn no_item() -> Item
     }
 }
 
-// The items of the rows, as the answer holds them.
-fn items_of(rows: Rows) -> [Item; Rows::MOST]
-    requires { ⌜ TidyRows rows ⌝ }
-    ensures { λ r. ⌜ r ≡ padded 12 (storedItem noItem) (map storedItem (itemsOf (viewRows rows))) ⌝ }
+// The items from a position on, as many as can be read.
+fn read_items(bytes: &[u8], from: usize) -> Parsed
+    requires { ⌜ from ≤ length (now bytes) ⌝ }
+    ensures { λ r. ⌜ ItemsRead (now (bytes .entry)) from r ⌝ }
 {
-    let n = rows.count as usize;
     let none = no_item();
     let mut at = [none; Rows::MOST];
-    let mut i = 0;
-    while i < n {
-        let row = rows.at[i];
-        let text = row.text;
+    let mut seen = [false; 256];
+    let mut next = from;
+    let mut k: usize = 0;
+    while k < Rows::MOST {
+        let len = text_len(bytes, next);
+        if len == 0 {
+            return Parsed {
+                at,
+                count: k as u8,
+                end: next,
+            };
+        }
+        let identifier = bytes[next + 2];
+        if seen[identifier as usize] {
+            return Parsed {
+                at,
+                count: k as u8,
+                end: next,
+            };
+        }
+        seen[identifier as usize] = true;
+        let start = next + 3;
+        let end = start + len;
+        let text = writing::held_text(&bytes[start..end]);
         let item = Item {
-            identifier: row.identifier,
+            identifier,
             text,
-            len: row.len,
+            len: len as u8,
         };
-        at[i] = item;
-        i += 1;
+        at[k] = item;
+        next = end;
+        k += 1;
     }
-    at
+    Parsed {
+        at,
+        count: k as u8,
+        end: next,
+    }
 }
 
 // The answer where the bytes are no menu command.
@@ -155,60 +192,36 @@ fn refusal() -> Menu
     }
 }
 
-// The help mark stands where there are no items.
-fn help_alone(help: bool, count: u8) -> bool
-    ensures { λ r. ⌜ r ≡ (help && count == 0) ⌝ }
-{
-    if help {
-        return count == 0;
-    }
-    false
-}
-
-// The menu with this title and these rows, all of applet 1 and shown, is written as these bytes.
-fn is_written(bytes: &[u8], title: &[u8], rows: Rows) -> bool
-    requires { ⌜ Fits rows × (shownOf 1 rows ≡ viewRows rows) × (length (now title) ≤ 20) ⌝ }
-    ensures { λ r. ⌜ r ≡ same? (menuBytes (menuOf (now (title .entry)) (viewRows rows))) (now (bytes .entry)) ⌝ }
-{
-    let mut buf = [0; 256];
-    let n = command::write_menu(&mut buf, title, rows, 1);
-    check::same(bytes, &buf[..n])
-}
-
 // The title, the help mark and the items of a menu command; refusal 1 and none of them for any other bytes.
 pub fn read_menu(bytes: &[u8]) -> Menu
     ensures { λ r. ⌜ r ≡ storedMenu (menuReader document (now (bytes .entry))) ⌝ }
 {
-    let none = refusal();
-    let v = value_at(bytes);
-    let help = byte_at(bytes, v + 4) != 0;
-    let t = byte_at(bytes, v + 10) as usize;
-    let start = part_len(bytes, 0, v + 11);
-    let len = part_len(bytes, start, t);
+    let start = title_at(bytes);
+    if start == 0 {
+        return refusal();
+    }
+    let help = bytes[start - 7] != 0;
+    let len = bytes[start - 1] as usize;
     if Desk::TITLE < len {
-        return none;
+        return refusal();
     }
     let end = start + len;
-    let parsed = read_rows(bytes, end, help);
-    if !parsed.ok {
-        return none;
+    if bytes.len() <= end {
+        return refusal();
     }
-    let rows = parsed.rows;
-    let count = rows.count;
-    if help_alone(help, count) {
-        return none;
-    }
-    if !is_written(bytes, &bytes[start..end], rows) {
-        return none;
+    let from = items_at(bytes, end, help);
+    let parsed = read_items(bytes, from);
+    if parsed.end != bytes.len() {
+        return refusal();
     }
     let title = writing::held_title(&bytes[start..end]);
-    let at = items_of(rows);
+    let at = parsed.at;
     Menu {
         refusal: 0,
         title,
         title_len: len as u8,
         help,
         at,
-        count,
+        count: parsed.count,
     }
 }

@@ -1,150 +1,70 @@
--- `read_menu` meets its contract: at each return the tests that led there say what the rules' reader answers. Assumes nothing.
-use Prim.Native.Nat.{ℕ, _+_, _-_}
-use mathlib.Core.Path.{_≡_, refl, sym, ap, _∙_, subst}
+-- `read_menu` meets its contract: each refusal by a part that every menu command has. Assumes nothing.
+use Prim.Native.Nat.{_-_}
 use native.Mathlib.Omega.{arith}
-use denote.Ref.{now}
-use lib.ListN.{take, drop}
-use lib.Seq.{take-all}
-use borrow.Author.Tests.{not-true, not-false}
-use Rattle.lists.specs.Lists.{padded}
+use mathlib.Core.Path.{ap, _∙_}
 use Rattle.rules.specs.Held.{storedMenu}
-use Rattle.command.specs.Fits.{Fits}
-use Rattle.reader.proofs.Lists.{part-most}
-use Rattle.reader.proofs.Answer.{few-items, all-shown, rows-fit, value-most, ends, long-title, bad-items, lone-help, not-written, is-read}
+use Rattle.reader.proofs.Answer.{no-title, long-title, no-room, bad-items, is-read}
 use borrow.Author.Needs.{needs}
 use Rattle.reader.proofs.read_menu.Statement.{statement}
 use Rattle.reader.proofs.read_menu.Tie as tie
 
+title-at-requires : tie.Need-title-at-requires
+title-at-requires c κs = search needs
+
 refusal-requires : tie.Need-refusal-requires
 refusal-requires c κs = search needs
 
-value-at-requires : tie.Need-value-at-requires
-value-at-requires c κs = search needs
-
-add-byte-at : tie.Need-add-byte-at
-add-byte-at c = let h = value-most (now (c .before .before .before .args .bytes)) (c .value-at .ensures) in omega arith
-
-byte-at-requires : tie.Need-byte-at-requires
-byte-at-requires c κs = search needs
-
-add-byte-at-2 : tie.Need-add-byte-at-2
-add-byte-at-2 c = let h = value-most (now (c .before .before .before .before .args .bytes)) (c .before .value-at .ensures) in omega arith
-
-byte-at-requires-2 : tie.Need-byte-at-requires-2
-byte-at-requires-2 c κs = search needs
-
-cast-t : tie.Need-cast-t
-cast-t c = search needs
-
-add-part-len : tie.Need-add-part-len
-add-part-len c = let h = value-most (now (c .before .before .before .before .before .args .bytes)) (c .before .before .value-at .ensures) in omega arith
-
-part-len-requires : tie.Need-part-len-requires
-part-len-requires c κs = search needs
-
-part-len-requires-2 : tie.Need-part-len-requires-2
-part-len-requires-2 c κs = search needs
-
 returns : tie.Need-returns
-returns c =
-    let p2 = c .before in
-    let p1 = p2 .before in
-    let b2 = p1 .before in
-    let b1 = b2 .before in
-    let va = b1 .before in
-    let s = now (va .before .before .before .args .bytes) in
-    va .before .refusal .ensures ∙ ap storedMenu (long-title s (va .value-at .ensures) (b1 .byte-at .ensures) refl (b2 .byte-at2 .ensures) (p1 .part-len .ensures) (p2 .part-len2 .ensures) (c .if1 .taken))
+returns c = c .refusal .ensures ∙ ap storedMenu (no-title (c .before .before .title-at .ensures) (c .before .if1 .taken))
 
-add-end : tie.Need-add-end
-add-end c =
-    let p2 = c .before in
-    let p1 = p2 .before in
-    let b2 = p1 .before in
-    let b1 = b2 .before in
-    let va = b1 .before in
-    let s = now (va .before .before .before .args .bytes) in
-    let e = ends s (va .value-at .ensures) (b1 .byte-at .ensures) refl (b2 .byte-at2 .ensures) (p1 .part-len .ensures) (p2 .part-len2 .ensures) in
-    omega arith
+sub-help : tie.Need-sub-help
+sub-help c = omega (arith, c .before .title-at .ensures .some (c .if1 .left) .1)
 
-read-rows-requires : tie.Need-read-rows-requires
-read-rows-requires c κs =
-    let p2 = c .before in
-    let p1 = p2 .before in
-    let b2 = p1 .before in
-    let b1 = b2 .before in
-    let va = b1 .before in
-    let s = now (va .before .before .before .args .bytes) in
-    ends s (va .value-at .ensures) (b1 .byte-at .ensures) refl (b2 .byte-at2 .ensures) (p1 .part-len .ensures) (p2 .part-len2 .ensures)
+shared-slice-read-help : tie.Need-shared-slice-read-help
+shared-slice-read-help c = omega (arith, c .before .before .title-at .ensures .some (c .before .if1 .left))
+
+sub-len : tie.Need-sub-len
+sub-len c = search needs
+
+shared-slice-read-len : tie.Need-shared-slice-read-len
+shared-slice-read-len c = omega (arith, c .before .before .before .title-at .ensures .some (c .before .before .if1 .left))
+
+cast-len : tie.Need-cast-len
+cast-len c = omega (arith, c .shared-slice-known3 .given (c .before .before .before .title-at .result - 1))
+
+refusal-requires-2 : tie.Need-refusal-requires-2
+refusal-requires-2 c κs = search needs
 
 returns-2 : tie.Need-returns-2
 returns-2 c =
-    let p2 = c .before .before .before .before in
-    let p1 = p2 .before in
-    let b2 = p1 .before in
-    let b1 = b2 .before in
-    let va = b1 .before in
-    let s = now (va .before .before .before .args .bytes) in
-    va .before .refusal .ensures ∙ ap storedMenu (bad-items s (va .value-at .ensures) (b1 .byte-at .ensures) refl (b2 .byte-at2 .ensures) (p1 .part-len .ensures) (p2 .part-len2 .ensures) (sym (c .before .before .read-rows .ensures .verdict) ∙ not-true _ (c .if2 .taken)))
+    let e = c .before .before .before .before in
+    c .refusal2 .ensures ∙ ap storedMenu (long-title (e .before .title-at .ensures) (e .if1 .left) (c .before .if2 .taken))
 
-help-alone-requires : tie.Need-help-alone-requires
-help-alone-requires c κs = search needs
+add-end : tie.Need-add-end
+add-end c = omega (arith, c .before .before .before .before .title-at .ensures .some (c .before .before .before .if1 .left) .2)
+
+refusal-requires-3 : tie.Need-refusal-requires-3
+refusal-requires-3 c κs = search needs
 
 returns-3 : tie.Need-returns-3
 returns-3 c =
-    let p2 = c .before .before .before .before .before .before .before in
-    let p1 = p2 .before in
-    let b2 = p1 .before in
-    let b1 = b2 .before in
-    let va = b1 .before in
-    let s = now (va .before .before .before .args .bytes) in
-    let rr = c .before .before .before .before .before .read-rows .ensures in
-    let ok = not-false _ (c .before .before .before .if2 .left) in
-    let er = rr .rows ok in
-    va .before .refusal .ensures ∙ ap storedMenu (lone-help s (va .value-at .ensures) (b1 .byte-at .ensures) refl (b2 .byte-at2 .ensures) (p1 .part-len .ensures) (p2 .part-len2 .ensures) er (sym (c .before .help-alone .ensures) ∙ c .if3 .taken))
+    let e = c .before .before .before .before .before in
+    c .refusal3 .ensures ∙ ap storedMenu (no-room (e .before .title-at .ensures) (e .if1 .left) (c .before .if3 .taken))
 
-sub-is-written : tie.Need-sub-is-written
-sub-is-written c = search needs
+items-at-requires : tie.Need-items-at-requires
+items-at-requires c κs = search needs
 
-part-is-written-start : tie.Need-part-is-written-start
-part-is-written-start c = search needs
+read-items-requires : tie.Need-read-items-requires
+read-items-requires c κs = c .items-at .ensures .within
 
-part-is-written-end : tie.Need-part-is-written-end
-part-is-written-end c =
-    let p2 = c .before .before .before .before .before .before .before in
-    let p1 = p2 .before in
-    let b2 = p1 .before in
-    let b1 = b2 .before in
-    let va = b1 .before in
-    let s = now (va .before .before .before .args .bytes) in
-    ends s (va .value-at .ensures) (b1 .byte-at .ensures) refl (b2 .byte-at2 .ensures) (p1 .part-len .ensures) (p2 .part-len2 .ensures)
-
-is-written-requires : tie.Need-is-written-requires
-is-written-requires c κs =
-    let p2 = c .before .before .before .before .before .before .before .before in
-    let p1 = p2 .before in
-    let b2 = p1 .before in
-    let b1 = b2 .before in
-    let va = b1 .before in
-    let s = now (va .before .before .before .args .bytes) in
-    let rr = c .before .before .before .before .before .before .read-rows .ensures in
-    let ok = not-false _ (c .before .before .before .before .if2 .left) in
-    let er = rr .rows ok in
-    (subst Fits (sym er) (rows-fit _ _ (few-items s _) (sym (rr .verdict) ∙ ok)), all-shown rr ok, part-most (p1 .part-len .result) (p2 .part-len2 .result) 20 (drop (p1 .part-len .result) s) (c .before .before .before .before .before .before .before .if1 .left))
+refusal-requires-4 : tie.Need-refusal-requires-4
+refusal-requires-4 c κs = search needs
 
 returns-4 : tie.Need-returns-4
 returns-4 c =
-    let p2 = c .before .before .before .before .before .before .before .before .before .before in
-    let p1 = p2 .before in
-    let b2 = p1 .before in
-    let b1 = b2 .before in
-    let va = b1 .before in
-    let s = now (va .before .before .before .args .bytes) in
-    let rr = c .before .before .before .before .before .before .before .before .read-rows .ensures in
-    let ok = not-false _ (c .before .before .before .before .before .before .if2 .left) in
-    let er = rr .rows ok in
-    let k : p1 .part-len .result + p2 .part-len2 .result - p1 .part-len .result ≡ p2 .part-len2 .result = omega arith in
-    let ti = ap (λ (j : ℕ). take j (drop (p1 .part-len .result) s)) k in
-    va .before .refusal .ensures ∙ ap storedMenu (not-written s (va .value-at .ensures) (b1 .byte-at .ensures) refl (b2 .byte-at2 .ensures) (p1 .part-len .ensures) (p2 .part-len2 .ensures) er (sym (c .before .before .before .before .help-alone .ensures) ∙ c .before .before .before .if3 .left) ti (c .before .is-written .ensures) (not-true _ (c .if4 .taken)))
+    let i = c .before .before .before .before in
+    let e = i .before .before .before .before .before in
+    c .refusal4 .ensures ∙ ap storedMenu (bad-items (e .before .title-at .ensures) (e .if1 .left) (search needs) (search needs) (i .items-at .ensures) (c .before .before .before .read-items .ensures) (c .before .if4 .taken))
 
 sub-held-title : tie.Need-sub-held-title
 sub-held-title c = search needs
@@ -153,80 +73,45 @@ part-held-title-start : tie.Need-part-held-title-start
 part-held-title-start c = search needs
 
 part-held-title-end : tie.Need-part-held-title-end
-part-held-title-end c =
-    let p2 = c .before .before .before .before .before .before .before .before .before .before in
-    let p1 = p2 .before in
-    let b2 = p1 .before in
-    let b1 = b2 .before in
-    let va = b1 .before in
-    let s = now (va .before .before .before .args .bytes) in
-    ends s (va .value-at .ensures) (b1 .byte-at .ensures) refl (b2 .byte-at2 .ensures) (p1 .part-len .ensures) (p2 .part-len2 .ensures)
+part-held-title-end c = search needs
 
 held-title-requires : tie.Need-held-title-requires
 held-title-requires c κs = search needs
 
-items-of-requires : tie.Need-items-of-requires
-items-of-requires c κs =
-    let p2 = c .before .before .before .before .before .before .before .before .before .before .before .before in
-    let p1 = p2 .before in
-    let b2 = p1 .before in
-    let b1 = b2 .before in
-    let va = b1 .before in
-    let s = now (va .before .before .before .args .bytes) in
-    let rr = c .before .before .before .before .before .before .before .before .before .before .read-rows .ensures in
-    let ok = not-false _ (c .before .before .before .before .before .before .before .before .if2 .left) in
-    let er = rr .rows ok in
-    let f = subst Fits (sym er) (rows-fit _ _ (few-items s _) (sym (rr .verdict) ∙ ok)) in
-    f .tidy
-
-cast-t14 : tie.Need-cast-t14
-cast-t14 c = search needs
+cast-t13 : tie.Need-cast-t13
+cast-t13 c = search needs
 
 returns-5 : tie.Need-returns-5
 returns-5 c =
-    let p2 = c .before .before .before .before .before .before .before .before .before .before .before .before .before in
-    let p1 = p2 .before in
-    let b2 = p1 .before in
-    let b1 = b2 .before in
-    let va = b1 .before in
-    let s = now (va .before .before .before .args .bytes) in
-    let rr = c .before .before .before .before .before .before .before .before .before .before .before .read-rows .ensures in
-    let ok = not-false _ (c .before .before .before .before .before .before .before .before .before .if2 .left) in
-    let er = rr .rows ok in
-    let k : p1 .part-len .result + p2 .part-len2 .result - p1 .part-len .result ≡ p2 .part-len2 .result = omega arith in
-    let ti = ap (λ (j : ℕ). take j (drop (p1 .part-len .result) s)) k in
-    let short = part-most (p1 .part-len .result) (p2 .part-len2 .result) 20 (drop (p1 .part-len .result) s) (c .before .before .before .before .before .before .before .before .before .before .before .before .if1 .left) in
-    is-read s (va .value-at .ensures) (b1 .byte-at .ensures) refl (b2 .byte-at2 .ensures) (p1 .part-len .ensures) (p2 .part-len2 .ensures) er (sym (c .before .before .before .before .before .before .before .help-alone .ensures) ∙ c .before .before .before .before .before .before .if3 .left) ti (c .before .before .before .before .is-written .ensures) (c .before .before .before .before .before .before .before .before .before .before .before .before .if1 .left) (sym (rr .verdict) ∙ ok) (not-false _ (c .before .before .before .if4 .left)) (c .before .held-title .ensures ∙ ap (padded 20 0) (take-all 20 _ short)) (c .items-of .ensures)
+    let x = c .before .before .before in
+    let i = x .before .before .before in
+    let e = i .before .before .before .before .before in
+    is-read (e .before .title-at .ensures) (e .if1 .left) (search needs) (search needs) (i .items-at .ensures) (x .before .before .read-items .ensures) (x .if4 .left) (c .before .held-title .ensures)
 
 pub read-menu-spec : {M : Type 1} → statement M
 read-menu-spec =
     tie.close
     (tie.spec
+    title-at-requires
     refusal-requires
-    value-at-requires
-    add-byte-at
-    byte-at-requires
-    add-byte-at-2
-    byte-at-requires-2
-    cast-t
-    add-part-len
-    part-len-requires
-    part-len-requires-2
     returns
-    add-end
-    read-rows-requires
+    sub-help
+    shared-slice-read-help
+    sub-len
+    shared-slice-read-len
+    cast-len
+    refusal-requires-2
     returns-2
-    help-alone-requires
+    add-end
+    refusal-requires-3
     returns-3
-    sub-is-written
-    part-is-written-start
-    part-is-written-end
-    is-written-requires
+    items-at-requires
+    read-items-requires
+    refusal-requires-4
     returns-4
     sub-held-title
     part-held-title-start
     part-held-title-end
     held-title-requires
-    items-of-requires
-    cast-t14
+    cast-t13
     returns-5)
