@@ -16,7 +16,7 @@ ghost use Rattle.reader.specs.Reads.{noItem, refused, ValueAt, TitleAt, 
 // The items that were read, how many they are, and the index behind them.
 pub struct Parsed {
     pub at: [Item; Rows::MOST],
-    pub count: u8,
+    pub count: usize,
     pub end: usize,
 }
 
@@ -144,7 +144,7 @@ fn read_items(bytes: &[u8], from: usize) -> Parsed
         if len == 0 {
             return Parsed {
                 at,
-                count: k as u8,
+                count: k,
                 end: next,
             };
         }
@@ -152,7 +152,7 @@ fn read_items(bytes: &[u8], from: usize) -> Parsed
         if seen[identifier as usize] {
             return Parsed {
                 at,
-                count: k as u8,
+                count: k,
                 end: next,
             };
         }
@@ -160,10 +160,11 @@ fn read_items(bytes: &[u8], from: usize) -> Parsed
         let start = next + 3;
         let end = start + len;
         let text = writing::held_text(&bytes[start..end]);
+        let size = len as u8;
         let item = Item {
             identifier,
             text,
-            len: len as u8,
+            len: size,
         };
         at[k] = item;
         next = end;
@@ -171,7 +172,7 @@ fn read_items(bytes: &[u8], from: usize) -> Parsed
     }
     Parsed {
         at,
-        count: k as u8,
+        count: k,
         end: next,
     }
 }
@@ -215,13 +216,15 @@ pub fn read_menu(bytes: &[u8]) -> Menu
         return refusal();
     }
     let title = writing::held_title(&bytes[start..end]);
+    let title_len = len as u8;
     let at = parsed.at;
+    let count = parsed.count as u8;
     Menu {
         refusal: 0,
         title,
-        title_len: len as u8,
+        title_len,
         help,
         at,
-        count: parsed.count,
+        count,
     }
 }

@@ -22,9 +22,6 @@ loop-holds c = come-none _ _ (c .no-item .ensures) (search needs)
 text-len-requires : tie.Need-text-len-requires Inv-loop μ-loop
 text-len-requires c κs = c .before .loop .inv .within
 
-cast-t16 : tie.Need-cast-t16 Inv-loop μ-loop
-cast-t16 c = search needs
-
 returns : tie.Need-returns Inv-loop μ-loop
 returns c = come-end (c .before .before .before .loop .inv) (c .before .text-len .ensures) (c .if1 .taken)
 
@@ -39,9 +36,6 @@ cast-if2 c = omega (arith, c .shared-slice-known2 .given (c .before .before .bef
 
 array-read-if2 : tie.Need-array-read-if2 Inv-loop μ-loop
 array-read-if2 c = omega (arith, c .shared-slice-known2 .given (c .before .before .before .before .loop .next + 2))
-
-cast-t24 : tie.Need-cast-t24 Inv-loop μ-loop
-cast-t24 c = search needs
 
 returns-2 : tie.Need-returns-2 Inv-loop μ-loop
 returns-2 c =
@@ -73,8 +67,8 @@ part-held-text-end c = omega (arith, c .before .before .before .text-len .ensure
 held-text-requires : tie.Need-held-text-requires Inv-loop μ-loop
 held-text-requires c κs = search needs
 
-cast-t19 : tie.Need-cast-t19 Inv-loop μ-loop
-cast-t19 c = omega (arith, c .before .before .before .before .before .text-len .ensures .some (c .before .before .before .before .if1 .left) .3)
+cast-size : tie.Need-cast-size Inv-loop μ-loop
+cast-size c = omega (arith, c .before .before .before .before .before .text-len .ensures .some (c .before .before .before .before .if1 .left) .3)
 
 mul-at : tie.Need-mul-at Inv-loop μ-loop
 mul-at c = search needs
@@ -94,9 +88,6 @@ loop-again c =
     let i = b .before .before .before .before .loop .next + 2 in
     come-more (b .before .before .before .before .loop .inv) (b .before .before .text-len .ensures) (b .before .if1 .left) (search needs) (omega (arith, b .shared-slice-known2 .given i)) (c .before .before .if2 .left) (c .held-text .ensures)
 
-cast-t33 : tie.Need-cast-t33 Inv-loop μ-loop
-cast-t33 c = search needs
-
 returns-3 : tie.Need-returns-3 Inv-loop μ-loop
 returns-3 c = come-full (c .before .loop .inv) (search needs)
 
@@ -109,13 +100,11 @@ read-items-spec =
     no-item-requires
     loop-holds
     text-len-requires
-    cast-t16
     returns
     add-identifier
     shared-slice-read-identifier
     cast-if2
     array-read-if2
-    cast-t24
     returns-2
     cast-seen
     array-write-seen
@@ -125,11 +114,10 @@ read-items-spec =
     part-held-text-start
     part-held-text-end
     held-text-requires
-    cast-t19
+    cast-size
     mul-at
     array-set-from-at
     add-k
     loop-less
     loop-again
-    cast-t33
     returns-3)

@@ -78,15 +78,18 @@ part-held-title-end c = search needs
 held-title-requires : tie.Need-held-title-requires
 held-title-requires c κs = search needs
 
-cast-t13 : tie.Need-cast-t13
-cast-t13 c = search needs
+cast-title-len : tie.Need-cast-title-len
+cast-title-len c = search needs
+
+cast-count : tie.Need-cast-count
+cast-count c = let w = c .before .before .before .before .before .before .read-items .ensures in omega (arith, w .count, w .stay .few)
 
 returns-5 : tie.Need-returns-5
 returns-5 c =
-    let x = c .before .before .before in
+    let x = c .before .before .before .before in
     let i = x .before .before .before in
     let e = i .before .before .before .before .before in
-    is-read (e .before .title-at .ensures) (e .if1 .left) (search needs) (search needs) (i .items-at .ensures) (x .before .before .read-items .ensures) (x .if4 .left) (c .before .held-title .ensures)
+    is-read (e .before .title-at .ensures) (e .if1 .left) (search needs) (search needs) (i .items-at .ensures) (x .before .before .read-items .ensures) (x .if4 .left) (c .before .before .held-title .ensures)
 
 pub read-menu-spec : {M : Type 1} → statement M
 read-menu-spec =
@@ -113,5 +116,6 @@ read-menu-spec =
     part-held-title-start
     part-held-title-end
     held-title-requires
-    cast-t13
+    cast-title-len
+    cast-count
     returns-5)
