@@ -1,6 +1,6 @@
 -- Laws of the loop over a piece: what stands in the buffer, and what is to come.
 -- Assumes nothing.
-use Prim.Native.Nat.{ℕ, _+_, _-_, _*_, _≤_, _<_, min}
+use Prim.Native.Nat.{ℕ, _+_, _-_, _*_, _≤_, _<_}
 use native.Mathlib.Omega.{arith}
 use native.Mathlib.Numerals.{add-one}
 use mathlib.Core.Path.{_≡_, refl, sym, ap, _∙_}
@@ -9,7 +9,6 @@ use lib.ListN.{length, take, drop, length-take, length-drop, drop-of-length-le}
 use lib.Seq.{drop-drop}
 use borrow.Rule.Slice.PartMut.{putMid}
 use Rattle.lists.specs.Wrote.{Wrote}
-use Rattle.lists.proofs.Walk.{take-taken}
 use Rattle.lists.proofs.Writing.{wrote-none, wrote-then, wrote-as}
 use Rattle.rules.specs.Holds.{Model}
 use Rattle.rules.specs.Floor.{stepLine}
@@ -41,22 +40,15 @@ pub begun-none : (k : ℕ) (s b : List ℕ) (card : Card) → Left card → Begu
 begun-none k s b card l =
     record { within = omega arith; counted = omega arith; short = omega arith; left = l; card-after = refl; front = []; wrote = wrote-none b 0; lines = refl }
 
--- the bytes from one index to another are a record, the last one maybe short
-record-at : (s : List ℕ) (i to : ℕ) → 24 * i < length s → to ≡ min (24 * i + 24) (length s) → take (to - 24 * i) (drop (24 * i) s) ≡ take 24 (drop (24 * i) s)
-record-at s i to h e =
-    let l = drop (24 * i) s in
-    let n : to - 24 * i ≡ length (take 24 l) = omega (arith, length-take 24 l, length-drop (24 * i) s) in
-    ap (λ k. take k l) n ∙ take-taken 24 l
-
 module _ {k : ℕ} {m : Model} {s b : List ℕ} (room : 540 * recordsIn s ≤ length b) {i : ℕ} {card : Card} {next at : ℕ} {c : List ℕ} where
   pub begun-more
-      : (to : ℕ) {d : List ℕ} {after : Card} {n : ℕ} → 24 * i < length s → to ≡ min (24 * i + 24) (length s) → Begun k m s b i card next at c
-      → Obeys (stepLine next (view card) (take (to - 24 * i) (drop (24 * i) s))) (take (at + 540 - at) (drop at c)) d after n
+      : {d bytes : List ℕ} {after : Card} {n : ℕ} → 24 * i < length s → bytes ≡ take 24 (drop (24 * i) s) → Begun k m s b i card next at c
+      → Obeys (stepLine next (view card) bytes) (take (at + 540 - at) (drop at c)) d after n
       → Begun k m s b (i + 1) after (next + 1) (at + n) (putMid at (at + 540 - at) c d)
-  begun-more to {d} {after} {n} h e g obeys =
+  begun-more {d} {after = after} {n} h e g obeys =
       let rest = drop (24 * i) s in
       let o = stepLine next (view card) (take 24 rest) in
-      let w : Obeys o (take (at + 540 - at) (drop at c)) d after n = rw (record-at s i to h e) at obeys in
+      let w : Obeys o (take (at + 540 - at) (drop at c)) d after n = rw e at obeys in
       let some : 0 < length rest = omega (arith, length-drop (24 * i) s) in
       let reached = reached-again next (take 24 rest) (reached-by-card card (g .left)) in
       let seen : view after ≡ o .card = ap view (w .same) ∙ reached-seen reached in

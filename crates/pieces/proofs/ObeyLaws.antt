@@ -31,6 +31,7 @@ use Rattle.asks.specs.Asks.{deedCall, giftCall, arrivalCall, callOf}
 use Rattle.paper.specs.Answers.{storedAnswer}
 use Rattle.port.specs.declared.Posted.{Posted}
 use Rattle.port.specs.Posts.{lentAfter, postedBy, Performs}
+use Rattle.port.proofs.PostLaws.{Made}
 use Rattle.orders.specs.Orders.{argumentsOf, ordered}
 use Rattle.answers.specs.Shown.{shownGift, lineBy}
 use Rattle.card.specs.declared.Card.{Card}
@@ -122,15 +123,15 @@ pub record Obeys (o : floor.Obeyed) (b c : List ℕ) (card : Card) (n : ℕ) : T
 
 -- THE RECORD ITSELF
 pub at-record
-    : (k letter a : ℕ) (m : Model) (s l : List ℕ) (ask : Ask) (buffer out : List ℕ) (p : Posted) {b d : List ℕ} {n : ℕ}
-    → length buffer ≡ 256 → letter ≡ byte s 0 → a ≡ byte s 1 → l ≡ argumentsOf s → ordered ask (byte s 1) (argumentsOf s) ≡ orderOf s
-    → Performs m (callOf ask a l buffer) buffer out p
+    : (k letter a : ℕ) (m : Model) (s l : List ℕ) {asked ask : Ask} (buffer out : List ℕ) (p : Posted) {b d : List ℕ} {n : ℕ}
+    → length buffer ≡ 256 → letter ≡ byte s 0 → a ≡ byte s 1 → l ≡ argumentsOf s → ordered asked (byte s 1) (argumentsOf s) ≡ orderOf s
+    → Made m asked ask a l buffer out p
     → Wrote b 0 (lineBy k letter ask (p .answer) out) d n → Obeys (stepLine k m s) b d (p .card) n
 unfolding stepLine
-at-record k letter a m s l ask buffer out p wide e ea el q g w =
-    let made : ordered ask a l ≡ orderOf s = rw (ea, el) q in
+at-record k letter a m s l {ask = ask} buffer out p wide e ea el q g w =
+    let made : ordered ask a l ≡ orderOf s = rw (ea, el) (ap (λ (x : Ask). ordered x (byte s 1) (argumentsOf s)) (sym (g .same)) ∙ q) in
     let all : floor.obey k letter m (ordered ask a l) ≡ floor.obey k (byte s 0) m (orderOf s) = rw (made, e) refl in
     record {
-      same = card-is k letter a m l buffer wide ask out p g ∙ ap (λ (o : floor.Obeyed). stored (o .card)) all;
-      wrote = wrote-as (line-is k letter a m l buffer wide ask out p g ∙ ap (λ (o : floor.Obeyed). o .line) all) w;
+      same = card-is k letter a m l buffer wide ask out p (g .performs) ∙ ap (λ (o : floor.Obeyed). stored (o .card)) all;
+      wrote = wrote-as (line-is k letter a m l buffer wide ask out p (g .performs) ∙ ap (λ (o : floor.Obeyed). o .line) all) w;
     }

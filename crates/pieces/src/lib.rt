@@ -1,14 +1,20 @@
 // The records of a piece of input obeyed, and their lines, one behind the other.
 use answers::write_answer;
+use asks::Ask;
 use asks::byte_at;
+use asks::first;
+use asks::from;
 use card::Card;
 use lines::count_on;
 use lines::put_decimal;
 use orders::arguments;
 use orders::read;
-use port::perform;
+use port::deeds::do_deed;
+use port::gifts::give;
+use port::naming::name;
+use port::unasked;
 ghost use mathlib.Core.Path.{_≡_};
-ghost use Prim.Native.Nat.{_+_, _*_, _^_, _<_, _≤_, min};
+ghost use Prim.Native.Nat.{_+_, _*_, _^_, _<_, _≤_};
 ghost use lib.ListN.{length};
 ghost use Rattle.card.specs.View.{view, Left};
 ghost use Rattle.pieces.specs.Pieces.{recordsIn, ObeysAll};
@@ -18,14 +24,6 @@ pub struct Run {
     pub card: Card,
     pub number: u64,
     pub length: usize,
-}
-
-// The end of the record that starts at an index: 24 bytes on, or the end of the input.
-fn end_of(from: usize, len: usize) -> usize
-    requires { ⌜ from < len ⌝ }
-    ensures { λ r. ⌜ r ≡ min (from + 24) len ⌝ }
-{
-    if len - from < 24 { len } else { from + 24 }
 }
 
 // Obeys the records of a piece of input, the first of which has this number, and writes their lines at the front of the buffer.
@@ -42,24 +40,22 @@ pub fn obey_all(card: Card, number: u64, input: &[u8], out: &mut [u8]) -> Run
     let mut at = 0;
     let mut i = 0;
     while 24 * i < len {
-        let from = 24 * i;
-        let to = end_of(from, len);
-        let bytes = &input[from..to];
+        let bytes = first(from(input, 24 * i), 24);
         let letter = byte_at(bytes, 0);
         let applet = byte_at(bytes, 1);
         let ask = read(bytes);
-        let posted = perform(left, ask, applet, arguments(bytes), &mut command);
+        let rest = arguments(bytes);
+        let posted = match ask {
+            Ask::Deed(deed) => do_deed(left, deed, applet, rest),
+            Ask::Gift(gift) => give(left, gift, applet, rest, &mut command),
+            Ask::Arrival(arrival) => name(left, arrival, rest),
+            Ask::Unknown => unasked(left),
+        };
         left = posted.card;
         let answer = posted.answer;
         let end = at + 540;
-        at += write_answer(
-            &mut out[at..end],
-            &digits[..count],
-            letter,
-            ask,
-            answer,
-            &command,
-        );
+        let line = &mut out[at..end];
+        at += write_answer(line, &digits[..count], letter, ask, answer, &command);
         count = count_on(&mut digits, count, next);
         next += 1;
         i += 1;

@@ -3,12 +3,12 @@
 use Prim.Native.Nat.{ℕ}
 use mathlib.Core.Path.{_≡_, refl, sym, ap, subst, _∙_}
 use mathlib.Core.List.{List}
+use lib.ListN.{length}
 use Rattle.lists.specs.Tests.{_==_}
 use Rattle.rules.specs.Holds.{Model}
 use Rattle.rules.specs.Calls.{Call, entry, newEntry, only}
 use Rattle.rules.specs.Papers.{paperDone, paperGiven}
 use Rattle.rules.specs.Step.{step}
-use Rattle.rules.specs.Floor.{Order, call, noCall}
 use Rattle.card.specs.declared.Card.{Card}
 use Rattle.card.specs.declared.Changed.{Changed}
 use Rattle.card.specs.declared.Numbered.{Numbered}
@@ -27,7 +27,9 @@ use Rattle.asks.specs.declared.Deed.the-variants as deed
 use Rattle.asks.specs.declared.Gift.{Gift}
 use Rattle.asks.specs.declared.Arrival.{Arrival}
 use Rattle.asks.specs.declared.Arrival.the-variants as arriving
-use Rattle.asks.specs.Asks.{deedCall, giftCall, arrivalCall}
+use Rattle.asks.specs.declared.Ask.{Ask}
+use Rattle.asks.specs.declared.Ask.the-variants as asking
+use Rattle.asks.specs.Asks.{deedCall, giftCall, arrivalCall, callOf}
 use Rattle.port.specs.Posts.{lentAfter, postedBy, Gives, Performs}
 use Rattle.paper.specs.Answers.{storedAnswer, answerOf}
 
@@ -99,12 +101,28 @@ module _ (m : Model) (x : Call) where
   arrival-posts d {p = p} re pe =
       on-paper _ p (pe ∙ ap {A = Arrived} {B = Posted} (λ q. record { card = q .card; answer = answerOf (q .answer) }) re) (called-answer _ _ (naming m d) refl refl)
 
--- WHAT IS MADE OF AN ORDER: the rules' step of a call ..
-pub makes : (m : Model) (out end : List ℕ) (r : Posted) {a : Order} {x : Call} → a ≡ call x → r ≡ postedBy (step m x) → end ≡ lentAfter x (step m x .buffer) out → Performs m a out end r
-unfolding Performs
-makes m out end r e p b = rw e (p, b)
+-- WHAT IS MADE OF AN ORDER, whichever it is: the rules' step of its call, or nothing. What is asked for is told apart to make it, and is known again behind that.
+pub record Made (m : Model) (asked ask : Ask) (n : ℕ) (b out end : List ℕ) (r : Posted) : Type 0 where
+  pub same : asked ≡ ask
+  pub performs : Performs m (callOf ask n b out) out end r
+  pub long : length end ≡ length out
 
--- .. or nothing
-pub unmade : (card : Card) → Left card → (out : List ℕ) (r : Posted) {a : Order} → a ≡ noCall → r ≡ record { card = card; answer = storedAnswer (only 0) } → Performs (view card) a out out r
-unfolding Performs
-unmade card left out r e p = rw e (p ∙ ap {A = Card} {B = Posted} (λ k. record { card = k; answer = storedAnswer (only 0) }) (left-form card left), refl)
+module _ (card : Card) (n : ℕ) (b out : List ℕ) {asked ask : Ask} {end : List ℕ} {r p : Posted} where
+  pub made-deed : {d : Deed} → asked ≡ asking.Deed d → p ≡ postedBy (step (view card) (deedCall d n b)) → end ≡ out → ask ≡ asking.Deed d → r ≡ p → Made (view card) asked ask n b out end r
+  unfolding Performs callOf
+  made-deed {d} e g k a s = record { same = e ∙ sym a; performs = rw (a, k) (s ∙ g, sym (left-by-deeds _ _ (does d n b))); long = ap length k }
+
+  pub made-gift
+      : {d : Gift} {c : List ℕ} → asked ≡ asking.Gift d → Gives (view card) (giftCall d n b out) out c p → length c ≡ length out → end ≡ c → ask ≡ asking.Gift d → r ≡ p
+      → Made (view card) asked ask n b out end r
+  unfolding Performs callOf
+  made-gift e g h k a s = record { same = e ∙ sym a; performs = rw (a, k) (s ∙ g .0, g .1); long = ap length k ∙ h }
+
+  pub made-arrival : {d : Arrival} → asked ≡ asking.Arrival d → p ≡ postedBy (step (view card) (arrivalCall d b)) → end ≡ out → ask ≡ asking.Arrival d → r ≡ p → Made (view card) asked ask n b out end r
+  unfolding Performs callOf
+  made-arrival {d} e g k a s = record { same = e ∙ sym a; performs = rw (a, k) (s ∙ g, sym (left-by-arrivals _ _ (arrives d b))); long = ap length k }
+
+  pub unmade : Left card → asked ≡ asking.Unknown → p ≡ record { card = card; answer = storedAnswer (only 0) } → end ≡ out → ask ≡ asked → r ≡ p → Made (view card) asked ask n b out end r
+  unfolding Performs callOf
+  unmade left e g k a s =
+      record { same = sym a; performs = rw (a ∙ e, k) (s ∙ g ∙ ap {A = Card} {B = Posted} (λ c. record { card = c; answer = storedAnswer (only 0) }) (left-form card left), refl); long = ap length k }

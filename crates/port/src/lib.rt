@@ -1,10 +1,9 @@
 // The card's calls by what a record of the floor program asks for, with an applet and bytes; an answer is one struct.
 // What a record asks for stands in `asks`, what a call does and answers in `rules`.
-mod arrivals;
-mod deeds;
-mod gifts;
+pub mod deeds;
+pub mod gifts;
+pub mod naming;
 
-use asks::Ask;
 use card::Arrived;
 use card::Card;
 use card::Changed;
@@ -17,10 +16,7 @@ use paper::plain;
 ghost use mathlib.Core.Path.{_≡_};
 ghost use Rattle.rules.specs.Papers.{paperDone, paperGiven};
 ghost use Rattle.rules.specs.Calls.{only};
-ghost use Rattle.card.specs.View.{view, Left};
-ghost use Rattle.asks.specs.Asks.{callOf};
 ghost use Rattle.paper.specs.Answers.{storedAnswer, answerOf};
-ghost use Rattle.port.specs.Posts.{Performs};
 
 // The card after a call, with the answer.
 pub struct Posted {
@@ -55,23 +51,10 @@ fn arrived(r: Arrived) -> Posted
     Posted { card, answer }
 }
 
-// The card as it was, and no answer.
-fn unasked(card: Card) -> Posted
+// Where no call is asked for: the card as it was, and no answer.
+pub fn unasked(card: Card) -> Posted
     ensures { λ p. ⌜ p ≡ record { card = card; answer = storedAnswer (only 0) } ⌝ }
 {
     let answer = plain(0, 0, false);
     Posted { card, answer }
-}
-
-// Makes the call that is asked for; a lent buffer takes the system command.
-pub fn perform(card: Card, ask: Ask, applet: u8, bytes: &[u8], out: &mut [u8]) -> Posted
-    requires { ⌜ Left card ⌝ }
-    ensures { λ r. ⌜ Performs (view card) (callOf ask applet (now (bytes .entry)) (now (out .entry))) (now (out .entry)) (now (out .exit)) r ⌝ }
-{
-    match ask {
-        Ask::Deed(deed) => deeds::do_deed(card, deed, applet, bytes),
-        Ask::Gift(gift) => gifts::give(card, gift, applet, bytes, out),
-        Ask::Arrival(arrival) => arrivals::name(card, arrival, bytes),
-        Ask::Unknown => unasked(card),
-    }
 }

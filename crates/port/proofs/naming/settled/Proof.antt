@@ -1,10 +1,10 @@
--- `port::arrivals::settled` meets its contract.
+-- `port::naming::settled` meets its contract.
 -- Assumes nothing.
 use Rattle.card.specs.Kinds.{is-settled}
 use Rattle.port.proofs.PostLaws.{arrival-posts}
 use borrow.Author.Needs.{needs}
-use Rattle.port.proofs.arrivals.settled.Statement.{statement}
-use Rattle.port.proofs.arrivals.settled.Tie as tie
+use Rattle.port.proofs.naming.settled.Statement.{statement}
+use Rattle.port.proofs.naming.settled.Tie as tie
 
 settled-requires : tie.Need-settled-requires
 settled-requires c κs = search needs

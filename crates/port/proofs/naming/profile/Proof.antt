@@ -1,10 +1,10 @@
--- `port::arrivals::profile` meets its contract.
+-- `port::naming::profile` meets its contract.
 -- Assumes nothing.
 use Rattle.card.specs.Kinds.{is-arrival}
 use Rattle.port.proofs.PostLaws.{arrival-posts}
 use borrow.Author.Needs.{needs}
-use Rattle.port.proofs.arrivals.profile.Statement.{statement}
-use Rattle.port.proofs.arrivals.profile.Tie as tie
+use Rattle.port.proofs.naming.profile.Statement.{statement}
+use Rattle.port.proofs.naming.profile.Tie as tie
 
 profile-requires : tie.Need-profile-requires
 profile-requires c κs = search needs

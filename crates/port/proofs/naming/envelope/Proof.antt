@@ -1,10 +1,10 @@
--- `port::arrivals::envelope` meets its contract.
+-- `port::naming::envelope` meets its contract.
 -- Assumes nothing.
 use Rattle.card.specs.Kinds.{is-arrival}
 use Rattle.port.proofs.PostLaws.{arrival-posts}
 use borrow.Author.Needs.{needs}
-use Rattle.port.proofs.arrivals.envelope.Statement.{statement}
-use Rattle.port.proofs.arrivals.envelope.Tie as tie
+use Rattle.port.proofs.naming.envelope.Statement.{statement}
+use Rattle.port.proofs.naming.envelope.Tie as tie
 
 envelope-requires : tie.Need-envelope-requires
 envelope-requires c κs = search needs

@@ -1,11 +1,11 @@
--- `port::arrivals::name` meets its contract.
+-- `port::naming::name` meets its contract.
 -- Assumes nothing.
 use denote.Ref.{now}
 use Rattle.asks.specs.Asks.{arrivalCall}
 use Rattle.port.proofs.PostLaws.{arrival-as}
 use borrow.Author.Needs.{needs}
-use Rattle.port.proofs.arrivals.name.Statement.{statement}
-use Rattle.port.proofs.arrivals.name.Tie as tie
+use Rattle.port.proofs.naming.name.Statement.{statement}
+use Rattle.port.proofs.naming.name.Tie as tie
 
 enum-told : tie.Need-enum-told
 enum-told c = search needs
