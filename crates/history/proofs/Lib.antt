@@ -13,4 +13,9 @@ pub mod Answered
 pub mod Fits
 pub mod Eight
 pub mod Promises
+pub mod Stands
+pub mod Handing
+pub mod Shown
+pub mod HandOuts
+pub mod Screen
 pub mod Example

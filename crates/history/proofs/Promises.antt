@@ -63,16 +63,16 @@ module _ (title : List ℕ) (calls : List Call) where
   h = past title calls
 
   -- what the induction over the calls gives
-  agree : Agree m h
+  pub agree : Agree m h
   agree = agrees title calls
 
-  sound : SoundTables (m .tables)
+  pub sound : SoundTables (m .tables)
   sound = ground title calls .sound .tables
 
   bounds : m .tables .bounds ≡ document
   bounds = ground title calls .bounds
 
-  from-1-to-8 : (n : ℕ) → present (m .tables) n ≡ true → (1 ≤ n) × (n ≤ 8)
+  pub from-1-to-8 : (n : ℕ) → present (m .tables) n ≡ true → (1 ≤ n) × (n ≤ 8)
   from-1-to-8 n e =
       (number-from (m .tables) sound n e, omega (arith, number-to (m .tables) sound n e, ap (λ (b : Bounds). b .applets) bounds))
 

@@ -1,7 +1,8 @@
--- What a history names. Read in this order: histories, what an entry says was done, what it names, who is called, and the
--- history of a run.
+-- What a history names. Read in this order: histories, what an entry says was done, what it names, who is called, the
+-- history of a run, and what the terminal was handed.
 pub mod Histories
 pub mod Deeds
 pub mod Named
 pub mod Called
 pub mod Runs
+pub mod Handed

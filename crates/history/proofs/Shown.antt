@@ -1,0 +1,86 @@
+-- What the card shows is what its history wants shown: the rows, and the codes.
+-- Assumes nothing.
+use Prim.Native.Nat.{ℕ, suc, _≤_}
+use native.Mathlib.Omega.{arith}
+use mathlib.Core.Path.{_≡_, refl, sym, ap, _∙_}
+use mathlib.Core.Bool.{Bool, true, false, _&&_}
+use mathlib.Core.List.{List, [], _∷_, map}
+use lib.ListN.{length}
+use Rattle.lists.specs.Tests.{if_then_else_}
+use Rattle.lists.specs.Lists.{some?, count, keep}
+use Rattle.lists.proofs.Alike.{keep-alike}
+use Rattle.lists.proofs.Counts.{count-is, count-keep, count-missed, count-some}
+use Rattle.lists.proofs.Mapped.{map-length}
+use Rattle.lists.proofs.Times.{count-all}
+use Rattle.lists.proofs.Walk.{some-first}
+use Rattle.rules.specs.declared.Envelope.the-variants.{Download}
+use Rattle.rules.specs.Holds.{Applet, Row, Tables}
+use Rattle.rules.specs.Events.{codes, firstDownload, kindOfCode, named}
+use Rattle.rules.specs.Applets.{hasNumber, nobody, present, applet, registered, inOrder}
+use Rattle.rules.specs.Arrivals.{event, arrivalOf, download, wants, called}
+use Rattle.rules.specs.Commands.{selectable, shownMenu, listened, shownFrom, shownEvents}
+use Rattle.rules.proofs.Listed.{count-inOrder}
+use Rattle.runs.specs.Sound.{SoundTables}
+use Rattle.history.specs.Histories.{History}
+use Rattle.history.specs.Named.{isSelectable, oneToEight, rowsNamed}
+use Rattle.history.specs.Called.{isDue}
+use Rattle.history.specs.Handed.{isShown, codesNamed}
+use Rattle.history.proofs.Agree.{numberOf, AgreeTables}
+use Rattle.history.proofs.Calling.{calls, due-there}
+use Rattle.history.proofs.Eight.{length-due}
+
+-- where as many pass, one passes or none does
+some-counted : {A B : Type 0} (p : A → Bool) (l : List A) (q : B → Bool) (k : List B) → count p l ≡ count q k → some? p l ≡ some? q k
+some-counted p l q k e = go (some? p l) (some? q k) refl refl
+  where
+    go : (a b : Bool) → some? p l ≡ a → some? q k ≡ b → a ≡ b
+    go true true f g = refl
+    go true false f g = absurd (omega (arith, count-some p l f, count-missed q k g))
+    go false true f g = absurd (omega (arith, count-missed p l f, count-some q k g))
+    go false false f g = refl
+
+-- each code of the list arrives as the event of its place, of which the first is e
+Placed : ℕ → List ℕ → Type 0
+Placed e [] = Unit
+Placed e (c ∷ l) = (arrivalOf (Download c) ≡ event e) × Placed (suc e) l
+
+placed : Placed firstDownload codes
+unfolding Placed codes arrivalOf download kindOfCode named
+placed = (refl, (refl, (refl, (refl, (refl, (refl, (refl, (refl, (refl, (refl, (refl, (refl, (refl, tt)))))))))))))
+
+module _ (t : Tables) (h : History) (s : SoundTables t) (g : AgreeTables t h) (few : (n : ℕ) → present t n ≡ true → (1 ≤ n) × (n ≤ 8)) where
+  -- The rows.
+  selectable-named : (n : ℕ) → selectable t n ≡ isSelectable n h
+  unfolding selectable applet
+  selectable-named n = some-first (hasNumber n) (λ (x : Applet). x .selectable) (t .applets) nobody (s .numbers-apart n) refl ∙ g .selectability n
+
+  pub rows-shown : shownMenu t ≡ keep (isShown h) (t .rows)
+  unfolding shownMenu isShown
+  rows-shown = keep-alike _ (isShown h) (t .rows) (λ (r : Row). ap (λ (b : Bool). r .enabled && b) (selectable-named (r .owner)))
+
+  pub rows-wanted : (p : Row → Bool) → count p (keep (isShown h) (t .rows)) ≡ count p (keep (isShown h) (rowsNamed h))
+  rows-wanted p = count-keep p (isShown h) (t .rows) ∙ g .rows (λ r. isShown h r && p r) ∙ sym (count-keep p (isShown h) (rowsNamed h))
+
+  -- The codes.
+  abbrev Wanted : ℕ → Applet → Bool
+  Wanted e x = x .selectable && registered t e x
+
+  listened-named : (e : ℕ) → listened t e ≡ some? (isDue h (event e)) oneToEight
+  unfolding listened called wants
+  listened-named e =
+      some-counted (Wanted e) (t .applets) (isDue h (event e)) oneToEight
+      (count-is (Wanted e) (t .applets)
+      ∙ sym (count-all (keep (Wanted e) (t .applets)))
+      ∙ sym (count-inOrder (λ x. true) (keep (Wanted e) (t .applets)))
+      ∙ count-all (inOrder (keep (Wanted e) (t .applets)))
+      ∙ sym (map-length numberOf (inOrder (keep (Wanted e) (t .applets))))
+      ∙ length-due (called t (event e)) (isDue h (event e)) (calls t h s g (event e) .once) (λ n q. few n (due-there t h s g (event e) n q)))
+
+  from-named : (e : ℕ) (l : List ℕ) → Placed e l → shownFrom t e l ≡ keep (λ code. some? (isDue h (arrivalOf (Download code))) oneToEight) l
+  unfolding Placed shownFrom keep
+  from-named e [] p = refl
+  from-named e (c ∷ l) p = rw (p .0, listened-named e, from-named (suc e) l (p .1)) refl
+
+  pub codes-shown : shownEvents t ≡ codesNamed h
+  unfolding shownEvents codesNamed
+  codes-shown = from-named firstDownload codes placed
