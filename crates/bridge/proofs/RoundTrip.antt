@@ -1,134 +1,23 @@
 -- DEMAND 2, THE ROUND TRIP: the menu command that a card hands out, read back, gives the card's title, the help mark and the shown
 -- rows' identifiers and texts, in order. Assumes nothing.
-use Prim.Native.Nat.{ℕ, suc, _≤_}
-use native.Mathlib.Omega.{arith}
-use mathlib.Core.Path.{_≡_, refl, sym, ap, _∙_, subst}
-use mathlib.Core.Bool.{Bool, true, false, _&&_, _||_}
-use mathlib.Core.List.{List, [], _∷_, _++_, map}
-use lib.ListN.{length, take, drop}
-use lib.Seq.{take-append-seam}
-use borrow.Author.Tests.{le-leb, le-ltb}
-use Rattle.lists.specs.Tests.{if_then_else_, _==_}
-use Rattle.lists.specs.Lists.{Every, every?, some?, keep, count, in?, repeats?, empty?}
-use Rattle.lists.proofs.Decided.{same}
-use Rattle.lists.proofs.Keep.{length-keep}
-use Rattle.lists.proofs.Mapped.{map-length}
-use Rattle.lists.proofs.Counts.{count-kept, none-counted}
-use Rattle.lists.proofs.Truth.{and-false}
-use Rattle.rules.specs.Holds.{Row, Bounds, Tables, Model, document}
-use Rattle.rules.specs.Rows.{hasIdentifier}
-use Rattle.rules.specs.Commands.{Item, Menu, selectable, shownMenu, menuOf, menuBytes, properItem, mayStand}
-use Rattle.rules.specs.Desk.{dueCommand}
+use Prim.Native.Nat.{ℕ, _≤_}
+use mathlib.Core.Path.{_≡_, refl, sym, ap, _∙_}
+use mathlib.Core.Bool.{true, false}
+use mathlib.Core.List.{List, map}
+use lib.ListN.{length, take}
+use Rattle.lists.specs.Lists.{some?}
+use Rattle.rules.specs.Holds.{Row, document}
+use Rattle.rules.specs.Commands.{shownMenu, menuOf}
+use Rattle.rules.specs.Calls.{Answer, numbered, systemCommand}
+use Rattle.rules.specs.Step.{step}
+use Rattle.rules.specs.Beside.{menuReader}
 use Rattle.rules.proofs.DueMarks.{first-due}
-use Rattle.rules.specs.Calls.{Answer, Outcome, numbered, systemCommand}
-use Rattle.rules.specs.Refusals.{lowest, lines, refusal}
-use Rattle.rules.specs.Beside.{readBy, menuReader}
-use Rattle.rules.specs.Step.{answer, written, front, outcome, step}
-use Rattle.rules.proofs.Reader.{read-back, accepts}
-use Rattle.runs.specs.Sound.{SoundRow, Sound}
+use Rattle.history.specs.Handed.{handed}
+use Rattle.history.proofs.Stands.{itemOf, shown-read}
+use Rattle.history.proofs.HandOuts.{taken, handed-due}
 use Rattle.card.specs.declared.Card.{Card}
 use Rattle.card.specs.View.{view, Left}
 use Rattle.card.proofs.Left.{left-sound, left-bounds}
-
--- an item of the command for a row
-abbrev pub itemOf : Row → Item
-itemOf r = record { identifier = r .identifier; text = r .text }
-
--- a row that may stand in a menu
-abbrev Proper : Row → Type 0
-Proper r = (1 ≤ r .identifier) × (r .identifier ≤ 255) × (1 ≤ length (r .text)) × (length (r .text) ≤ 15)
-
-proper-row : (t : Tables) → t .bounds ≡ document → (r : Row) → SoundRow t r → Proper r
-proper-row t e r s =
-    let h : t .bounds .text ≡ 15 = ap (λ (b : Bounds). b .text) e in
-    (s .identifier-from, s .identifier-to, s .text-from, omega (arith, h, s .text-to))
-
--- of rows that may stand, those that are kept are proper items
-each-proper : (t : Tables) → t .bounds ≡ document → (p : Row → Bool) (l : List Row) → Every (SoundRow t) l → every? (properItem document) (map itemOf (keep p l)) ≡ true
-unfolding every? Every keep properItem
-each-proper t e p [] s = refl
-each-proper t e p (r ∷ l) s = go (p r) (proper-row t e r (s .0)) (each-proper t e p l (s .1))
-  where
-    go : (b : Bool) → Proper r → every? (properItem document) (map itemOf (keep p l)) ≡ true → every? (properItem document) (map itemOf (if b then r ∷ keep p l else keep p l)) ≡ true
-    go true h i = rw (le-leb 1 (r .identifier) (h .0), le-leb (r .identifier) 255 (h .1), le-leb 1 (length (r .text)) (h .2), le-leb (length (r .text)) 15 (h .3), i) refl
-    go false h i = i
-
--- rows with identifiers apart repeat none
-abbrev identifiers : List Row → List ℕ
-identifiers l = map (λ (i : Item). i .identifier) (map itemOf l)
-
-in-rows : (n : ℕ) (l : List Row) → in? n (identifiers l) ≡ some? (hasIdentifier n) l
-unfolding in? some?
-in-rows n [] = refl
-in-rows n (r ∷ l) = rw (in-rows n l) refl
-
-none-in : (n : ℕ) → in? n [] ≡ false
-unfolding in? some?
-none-in n = refl
-
-no-repeats : (l : List Row) → ((i : ℕ) → count (hasIdentifier i) l ≤ 1) → repeats? (identifiers l) [] ≡ false
-unfolding repeats? count
-no-repeats [] h = refl
-no-repeats (r ∷ l) h =
-    let s = same (r .identifier) in
-    let k : suc (count (hasIdentifier (r .identifier)) l) ≤ 1 = subst (λ (b : Bool). (if b then suc (count (hasIdentifier (r .identifier)) l) else count (hasIdentifier (r .identifier)) l) ≤ 1) s (h (r .identifier)) in
-    let a : in? (r .identifier) (identifiers l) ≡ false = in-rows (r .identifier) l ∙ none-counted (hasIdentifier (r .identifier)) l (omega arith) in
-    let i : repeats? (identifiers l) [] ≡ false = no-repeats l (λ i. less (r .identifier == i) (h i)) in
-    rw (a, none-in (r .identifier), i) refl
-  where
-    less : {n : ℕ} (b : Bool) → (if b then suc n else n) ≤ 1 → n ≤ 1
-    less true g = omega arith
-    less false g = g
-
--- no help mark where there are no rows
-none-alone : (l : List Row) → (some? (λ (r : Row). r .help) l && empty? (map itemOf l)) ≡ false
-unfolding some? empty?
-none-alone [] = refl
-none-alone (r ∷ l) = and-false (r .help || some? (λ (x : Row). x .help) l)
-
--- what a sound card shows may stand in a menu
-pub shown-stands : (m : Model) → Sound m → m .tables .bounds ≡ document → mayStand document (menuOf (m .desk .title) (shownMenu (m .tables))) ≡ true
-unfolding mayStand menuOf shownMenu
-shown-stands m s e =
-    let t = m .tables in
-    let p : Row → Bool = λ (r : Row). r .enabled && selectable t (r .owner) in
-    let a : t .bounds .title ≡ 20 = ap (λ (b : Bounds). b .title) e in
-    let b : t .bounds .rows ≡ 12 = ap (λ (b : Bounds). b .rows) e in
-    let f : length (m .desk .title) ≤ 20 = omega (arith, a, s .title) in
-    let g : length (map itemOf (keep p (t .rows))) ≤ 12 = omega (arith, b, map-length itemOf (keep p (t .rows)), length-keep p (t .rows), s .tables .few-rows) in
-    let q : every? (properItem document) (map itemOf (keep p (t .rows))) ≡ true = each-proper t e p (t .rows) (s .tables .each-row) in
-    let r : repeats? (identifiers (keep p (t .rows))) [] ≡ false = no-repeats (keep p (t .rows)) (λ i. few-kept i (count-kept (hasIdentifier i) p (t .rows)) (s .tables .identifiers-apart i)) in
-    rw (le-leb (length (m .desk .title)) 20 f, le-leb (length (map itemOf (keep p (t .rows)))) 12 g, q, r, none-alone (keep p (t .rows))) refl
-  where
-    few-kept : (i : ℕ) {a b : ℕ} → a ≤ b → b ≤ 1 → a ≤ 1
-    few-kept i h k = omega arith
-
--- a menu that may stand is read back
-pub stands-read : (m : Menu) → length (m .items) ≤ 12 → mayStand document m ≡ true → menuReader document (menuBytes m) ≡ record { refusal = 0; menu = m }
-unfolding menuReader lowest readBy
-stands-read m h e = rw (accepts document m e, read-back document m h) refl
-
-module _ (m : Model) (buffer : List ℕ) (idle : m .desk .outstanding ≡ false) (due : m .desk .due .menu ≡ true) (room : 256 ≤ length buffer) where
-  taken : refusal m (systemCommand buffer) ≡ 0
-  unfolding refusal lines lowest
-  taken = rw (idle, le-ltb (length buffer) 256 room) refl
-
-  command : dueCommand (m .tables) (m .desk) ≡ menuBytes (menuOf (m .desk .title) (shownMenu (m .tables)))
-  command = first-due (m .tables) (m .desk) ∙ rw due refl
-
-  accepted : step m (systemCommand buffer) ≡ outcome 0 m (systemCommand buffer)
-  unfolding step
-  accepted = ap (λ (n : ℕ). outcome n m (systemCommand buffer)) taken
-
-  pub handed-out : step m (systemCommand buffer) .answer ≡ numbered (length (menuBytes (menuOf (m .desk .title) (shownMenu (m .tables)))))
-  unfolding outcome answer
-  handed-out = ap (λ (o : Outcome). o .answer) accepted ∙ ap (λ (l : List ℕ). numbered (length l)) command
-
-  pub at-the-front : take (length (menuBytes (menuOf (m .desk .title) (shownMenu (m .tables))))) (step m (systemCommand buffer) .buffer) ≡ menuBytes (menuOf (m .desk .title) (shownMenu (m .tables)))
-  unfolding outcome written front
-  at-the-front =
-      let b = menuBytes (menuOf (m .desk .title) (shownMenu (m .tables))) in
-      ap (λ (o : Outcome). take (length b) (o .buffer)) accepted ∙ ap (λ (l : List ℕ). take (length b) (l ++ drop (length l) buffer)) command ∙ take-append-seam b (drop (length b) buffer)
 
 -- THE ROUND TRIP. Of every card, with the menu due and nothing outstanding: the number that the call answers is how many bytes of the
 -- buffer are the command, and read back they say the card's title, whether some shown row has help, and the shown rows in order.
@@ -145,13 +34,8 @@ module _ (c : Card) (left : Left c) (buffer : List ℕ) (idle : view c .desk .ou
               items = map itemOf (shownMenu (view c .tables));
             };
       }
-  unfolding menuOf
+  unfolding menuOf handed
   menu-read-back n e =
-      let shown = menuOf (view c .desk .title) (shownMenu (view c .tables)) in
-      let k : n ≡ length (menuBytes shown) = ap (λ (a : Answer). a .number) (sym e ∙ handed-out (view c) buffer idle due room) in
-      ap (λ (j : ℕ). menuReader document (take j (step (view c) (systemCommand buffer) .buffer))) k
-      ∙ ap (menuReader document) (at-the-front (view c) buffer idle due room)
-      ∙ stands-read shown (few (view c) (left-sound c left) (left-bounds c left)) (shown-stands (view c) (left-sound c left) (left-bounds c left))
-    where
-      few : (m : Model) → Sound m → m .tables .bounds ≡ document → length (map itemOf (shownMenu (m .tables))) ≤ 12
-      few m s e = unfold shownMenu in omega (arith, ap (λ (b : Bounds). b .rows) e, map-length itemOf (keep (λ (r : Row). r .enabled && selectable (m .tables) (r .owner)) (m .tables .rows)), length-keep (λ (r : Row). r .enabled && selectable (m .tables) (r .owner)) (m .tables .rows), s .tables .few-rows)
+      ap (λ (a : Answer). menuReader document (take (a .number) (step (view c) (systemCommand buffer) .buffer))) (sym e)
+      ∙ ap (menuReader document) (handed-due (view c) buffer (taken (view c) buffer idle room) ∙ first-due (view c .tables) (view c .desk) ∙ rw due refl)
+      ∙ shown-read (view c) (left-sound c left) (left-bounds c left)
