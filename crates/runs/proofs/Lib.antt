@@ -12,3 +12,5 @@ pub mod Deleted
 pub mod Entered
 pub mod Altered
 pub mod Run
+pub mod AlreadySo
+pub mod Lowest
