@@ -1,4 +1,4 @@
--- What ask event answers.
+-- What ask event answers; it leaves the card.
 -- Assumes nothing.
 use Prim.Native.Nat.{ℕ, zero, suc}
 use native.Mathlib.Omega.{arith}
@@ -9,21 +9,18 @@ use lib.IntN.{ℤ}
 use lib.ListN.{getD}
 use borrow.Author.Tests.{ne-eqb}
 use Rattle.lists.specs.Tests.{if_then_else_, _==_}
-use Rattle.lists.proofs.Times.{if-same}
 use Rattle.sets.specs.Sets.{has?}
 use Rattle.sets.proofs.Bits.{has-set}
 use Rattle.rules.specs.declared.Kind.{Kind}
 use Rattle.rules.specs.declared.Kind.the-variants.{Event}
 use Rattle.rules.specs.declared.Told.{Told}
 use Rattle.rules.specs.declared.Told.the-variants.{Yes, No, Refused}
-use Rattle.rules.specs.Holds.{Bounds, Tables, Desk, Model}
+use Rattle.rules.specs.Holds.{Bounds, Tables, Model}
 use Rattle.rules.specs.Events.{kindOf, callControl}
 use Rattle.rules.specs.Applets.{present, applet, registered, isRegistered}
 use Rattle.rules.specs.Calls.{event, askEvent, saying}
-use Rattle.rules.specs.Desk.{marked}
 use Rattle.rules.specs.Refusals.{lines, absent, eventLines, refusal}
 use Rattle.rules.specs.Step.{step, outcome, tablesAfter, eventTables, deskAfter, answer, eventAnswer}
-use Rattle.rules.proofs.DueMarks.{marked-same}
 use Rattle.events.specs.Place.{placeOf}
 use Rattle.events.proofs.Places.{place-within}
 use Rattle.runs.proofs.Looked.{has-its-number, number-from, number-to}
@@ -34,10 +31,14 @@ use Rattle.card.specs.declared.Asked.{Asked}
 use Rattle.card.specs.View.{view, stored, Left}
 use Rattle.card.specs.Reply.{askedBy, toldOf}
 use Rattle.card.specs.Turns.{isListed}
-use Rattle.card.proofs.Left.{left-form, left-sound, left-bounds}
-use Rattle.card.proofs.Reply.{asks, after-by, control-form}
+use Rattle.card.proofs.Left.{left-sound, left-bounds}
+use Rattle.card.proofs.Reply.{asks, stays, control-form}
 use Rattle.card.proofs.Present.{present-by}
 use Rattle.card.proofs.Listeners.{set-is}
+
+pub ask-stays : (c : Card) → Left c → (n : ℕ) (v : ℤ) → c ≡ stored (step (view c) (event (askEvent n v)) .after)
+unfolding tablesAfter eventTables deskAfter
+ask-stays c left n v = stays c left (event (askEvent n v)) refl refl
 
 module _
     (c : Card) (left : Left c) (n : ℕ) (v : ℤ) {k : Kind} (kind : k ≡ kindOf v)
@@ -83,17 +84,5 @@ module _
         go zero z = unfold outcome in ap toldOf (sym (accepted z))
         go (suc j) z = unfold outcome in rw (ne-eqb (suc j) 0 (λ w. omega arith)) refl
 
-    still : deskAfter m (event (askEvent n v)) ≡ m .desk
-    unfolding deskAfter
-    still = refl
-
-    stays : c ≡ stored (step m (event (askEvent n v)) .after)
-    unfolding tablesAfter eventTables
-    stays =
-        left-form c left
-        ∙ ap stored (sym (after-by m (event (askEvent n v)) refusal-is still
-        ∙ ap (λ (u : Tables). record { tables = u; desk = marked t u (m .desk) }) (if-same (r == 0) t)
-        ∙ ap (λ (d : Desk). record { tables = t; desk = d }) (marked-same t (m .desk))))
-
     pub asks-event : {a : Told} → a ≡ (if r == 0 then (if says then Yes else No) else Refused r) → _≡_ {A = Asked} (record { card = c; answer = a }) (askedBy (step m (event (askEvent n v))))
-    asks-event e = asks (step m (event (askEvent n v))) stays (e ∙ told)
+    asks-event e = asks (step m (event (askEvent n v))) (ask-stays c left n v) (e ∙ told)

@@ -1,6 +1,6 @@
 -- Whom an envelope calls; it leaves the card.
 -- Assumes nothing.
-use Prim.Native.Nat.{ℕ, zero, suc}
+use Prim.Native.Nat.{ℕ}
 use mathlib.Core.Path.{_≡_, refl, sym, ap, _∙_}
 use mathlib.Core.Bool.{Bool}
 use mathlib.Core.List.{List, [], _∷_}
@@ -10,14 +10,13 @@ use Rattle.sets.specs.Sets.{has?}
 use Rattle.rules.specs.declared.Called.{Called}
 use Rattle.rules.specs.declared.Envelope.{Envelope}
 use Rattle.rules.specs.declared.Marks.{Marks}
-use Rattle.rules.specs.Holds.{Desk, Model}
+use Rattle.rules.specs.Holds.{Model}
 use Rattle.rules.specs.Held.{viewRows, viewDesk}
 use Rattle.rules.specs.Envelopes.{envelopeOf, badEnvelope}
 use Rattle.rules.specs.Arrivals.{called, arrivalOf, envelopeMarks}
 use Rattle.rules.specs.Calls.{Call, arrival, envelope, calling}
 use Rattle.rules.specs.Refusals.{line, lowest, lines, arrivalLines, refusal}
-use Rattle.rules.specs.Step.{step, outcome, changed, tablesAfter, deskAfter, arrivalDesk, answer, arrivalAnswer}
-use Rattle.rules.proofs.DueMarks.{marked-same}
+use Rattle.rules.specs.Step.{step, tablesAfter, deskAfter, arrivalDesk, answer, arrivalAnswer}
 use Rattle.applets.specs.declared.Callees.{Callees}
 use Rattle.applets.specs.Rolls.{calleesOf}
 use Rattle.arrivals.specs.Whom.{ForEnvelope, calledSet}
@@ -27,8 +26,8 @@ use Rattle.card.specs.declared.Card.{Card}
 use Rattle.card.specs.declared.Arrived.{Arrived}
 use Rattle.card.specs.View.{view, stored, Left}
 use Rattle.card.specs.Reply.{arrivedBy}
-use Rattle.card.proofs.Left.{left-form, left-sound}
-use Rattle.card.proofs.Reply.{arrives, registered-form}
+use Rattle.card.proofs.Left.{left-sound}
+use Rattle.card.proofs.Reply.{arrives, stays, registered-form}
 use Rattle.card.proofs.Calling.{answers}
 
 module _ (c : Card) (left : Left c) (bytes : List ℕ) where
@@ -38,14 +37,9 @@ module _ (c : Card) (left : Left c) (bytes : List ℕ) where
   abbrev it : Call
   it = arrival (envelope bytes)
 
-  changes-none : changed m it ≡ m
-  unfolding changed tablesAfter deskAfter arrivalDesk
-  changes-none = ap (λ (d : Desk). record { tables = m .tables; desk = d }) (marked-same (m .tables) (m .desk))
-
-  card-after : (r : ℕ) → c ≡ stored (outcome r m it .after)
-  unfolding outcome
-  card-after zero = left-form c left ∙ ap stored (sym changes-none)
-  card-after (suc r) = left-form c left
+  pub envelope-stays : c ≡ stored (step m it .after)
+  unfolding tablesAfter deskAfter arrivalDesk
+  envelope-stays = stays c left it refl refl
 
   refusal-is : lowest (line 1 (badEnvelope (envelopeOf bytes)) ∷ []) ≡ refusal m it
   unfolding refusal lines arrivalLines
@@ -71,6 +65,6 @@ module _ (c : Card) (left : Left c) (bytes : List ℕ) where
   comes {e} {r = r} {k = k} i x n f p q g h =
       let is : r ≡ refusal m it = n ∙ ap (λ (b : Bool). lowest (line 1 b ∷ [])) (x ∙ ap badEnvelope i) ∙ refusal-is in
       let for-it = f (m .tables) (left-sound c left .tables) refl (registered-form c left) refl refl in
-      arrives (step m it) (card-after (refusal m it))
+      arrives (step m it) envelope-stays
       (answers c left (arrivalOf (envelopeOf bytes)) (envelope-as (m .tables) (sym i) for-it) it (envelopeMarks (c .desk .outstanding) (envelopeOf bytes)) accepted
       is p q (h ∙ ap (λ (y : Marks). answering r k y) (g ∙ ap (envelopeMarks (c .desk .outstanding)) i)))

@@ -75,6 +75,15 @@ module _ (m : Model) (x : Call) {r : ℕ} (e : r ≡ refusal m x) where
       go zero = unfold outcome in plain
       go (suc k) = unfold outcome in refl
 
+-- a call that changes neither the tables nor the desk leaves the card
+pub stays : (c : Card) → Left c → (x : Call) → tablesAfter (view c .tables) x ≡ view c .tables → deskAfter (view c) x ≡ view c .desk → c ≡ stored (step (view c) x .after)
+unfolding step
+stays c left x same still = left-form c left ∙ ap stored (sym (go (refusal (view c) x)))
+  where
+    go : (k : ℕ) → outcome k (view c) x .after ≡ view c
+    go zero = unfold outcome changed in rw (same, still) (ap (λ (d : Desk). record { tables = view c .tables; desk = d }) (marked-same (view c .tables) (view c .desk)))
+    go (suc k) = unfold outcome in refl
+
 -- the card that holds a model, part by part
 pub card-is
     : (m : Model) {a : Roll} {s : ℕ} {g : List ℕ} {f : List ℕ} {k : ℕ} {r : Rows} {b : Bank} {d : held-desk.Desk}

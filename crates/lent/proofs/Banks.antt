@@ -2,10 +2,12 @@
 -- Assumes nothing.
 use mathlib.Core.Path.{sym, ap, subst}
 use mathlib.Core.List.{[], _∷_}
+use Prim.Native.Nat.{ℕ}
 use mir.Syntax.{Name}
 use denote.Steps.{only}
 use denote.Struct.Laws as LL
 use denote.Enum.Laws as EL
+use Rattle.rules.specs.declared.Bank.{Bank}
 use Rattle.rules.specs.declared.Done.{Done}
 use Rattle.rules.specs.declared.Given.{Given}
 use Rattle.timers.specs.Promises.{Allocates, Releases}
@@ -20,7 +22,7 @@ use Rattle.timers.proofs.Allocated.Laws as G′
 use Rattle.timers.proofs.Released as R
 use Rattle.timers.proofs.Released.Laws as R′
 use Rattle.lent.proofs.Pars.{byte}
-use Rattle.lent.proofs.Results.{Plainly, Kind, returned, nought}
+use Rattle.lent.proofs.Results.{Plainly, Kind, stores, Ending, returned, gives, Wrote, nought}
 use Rattle.lent.proofs.Walk.{LentCall}
 
 abbrev pub bank : Plainly
@@ -60,30 +62,25 @@ released = record {
   answer-made = λ 𝓤 H A. EL.makes D.the-type D′.the-plain 𝓤 H A;
 }
 
-abbrev pub allocates : Name → LentCall
-allocates called = record {
+-- A CALL ON A LENT BANK, of two bytes: what its function promises of the bank before, the bytes, the answer and the bank after; what the call promises; and that this follows
+abbrev pub bank-call : (k : Kind bank) (e : Ending k) → Name → (said : Bank → (n m : ℕ) → k .answers .Denot → Bank → Type 0) (promise : Bank → (n m : ℕ) → gives e .Denot → Bank → Type 0)
+    → ((h : Bank) (n m : ℕ) (a : k .answers .Denot) (b : Bank) (w : gives e .Denot) → said h n m a b → Wrote e a w → promise h n m w b) → LentCall
+bank-call k e called said promise keeps = record {
   it = bank;
-  kind = allotted;
-  ending = returned;
+  kind = k;
+  ending = e;
   n = 0;
   params = byte ∷ byte ∷ [];
   name = called;
   asking = nought;
-  said = λ h x r. Allocates h (x .0) (x .1 .0) (r .answer) (r .bank);
-  promise = λ h x w b. Allocates h (x .0) (x .1 .0) w b;
-  keeps = λ h x r w _ e p. subst (λ (a : Given). Allocates h (x .0) (x .1 .0) a (r .bank)) (sym p) e;
+  said = λ h x r. said h (x .0) (x .1 .0) (k .answer r) (k .it r);
+  storing = stores;
+  promise = λ h x w b. promise h (x .0) (x .1 .0) w b;
+  keeps = λ h x r w _ s p. keeps h (x .0) (x .1 .0) (k .answer r) (k .it r) w s p;
 }
 
+abbrev pub allocates : Name → LentCall
+allocates called = bank-call allotted returned called Allocates Allocates (λ h n m a b w s p. subst (λ (a : Given). Allocates h n m a b) (sym p) s)
+
 abbrev pub releases : Name → LentCall
-releases called = record {
-  it = bank;
-  kind = released;
-  ending = returned;
-  n = 0;
-  params = byte ∷ byte ∷ [];
-  name = called;
-  asking = nought;
-  said = λ h x r. Releases h (x .0) (x .1 .0) (r .answer) (r .bank);
-  promise = λ h x w b. Releases h (x .0) (x .1 .0) w b;
-  keeps = λ h x r w _ e p. subst (λ (a : Done). Releases h (x .0) (x .1 .0) a (r .bank)) (sym p) e;
-}
+releases called = bank-call released returned called Releases Releases (λ h n m a b w s p. subst (λ (a : Done). Releases h n m a b) (sym p) s)

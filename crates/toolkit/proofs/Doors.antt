@@ -29,7 +29,7 @@ use Rattle.paper.proofs.of_told.Met as of-told-thm
 use Rattle.paper.proofs.of_called.Symbol as of-called
 use Rattle.paper.proofs.of_called.Met as of-called-thm
 use Rattle.lent.proofs.Pars.{Par, Xs}
-use Rattle.lent.proofs.Results.{Kind, Ending, written, asks}
+use Rattle.lent.proofs.Results.{Kind, Storing, stores, leaves, Ending, written, asks}
 use Rattle.lent.proofs.Walk.{Cited, LentCall}
 use Rattle.rules.specs.Step.{lent, written as written-by, outcome}
 use Rattle.rules.specs.Refusals.{refusal}
@@ -95,20 +95,30 @@ module _ (S : Sort) (h : Card) (left : Left h) {x : Call} (is : S .Is x) where
         left = subst Left (sym k) (left-again h x left);
       }
 
--- A DOOR of such a call, which is lent no buffer: of how many lifetimes beside the card's, of which parameters, at which method, for which call
-abbrev pub door : (S : Sort) (n : ℕ) (ps : List (Par n)) → Name → (c : Xs ps → Call) → ((x : Xs ps) → S .Is (c x)) → ((x : Xs ps) → Unlent (c x)) → LentCall
-door S n ps called c is none = record {
-  it = card;
-  kind = S .kind;
-  ending = ending S;
-  n = n;
-  params = ps;
-  name = called;
-  asking = asks Left;
-  said = λ h x r. r ≡ S .by (step (view h) (c x));
-  promise = λ h x w k. Does (step (view h) (c x)) k w [];
-  keeps = λ h x r w left e p. sort-does S h left (is x) r w e p (unlent (view h) (c x) (none x));
-}
+-- A DOOR of such a call, which is lent no buffer: of how many lifetimes beside the card's, of which parameters, at which method, for which call, and
+-- whether it stores the card
+module _ (S : Sort) (n : ℕ) (ps : List (Par n)) (called : Name) (c : Xs ps → Call) (is : (x : Xs ps) → S .Is (c x)) (none : (x : Xs ps) → Unlent (c x)) where
+  abbrev a-door : Storing ((h : Card) (x : Xs ps) (r : S .kind .results .Denot) → Left h → r ≡ S .by (step (view h) (c x)) → S .kind .it r ≡ h) → LentCall
+  a-door s = record {
+    it = card;
+    kind = S .kind;
+    ending = ending S;
+    n = n;
+    params = ps;
+    name = called;
+    asking = asks Left;
+    said = λ h x r. r ≡ S .by (step (view h) (c x));
+    storing = s;
+    promise = λ h x w k. Does (step (view h) (c x)) k w [];
+    keeps = λ h x r w left e p. sort-does S h left (is x) r w e p (unlent (view h) (c x) (none x));
+  }
+
+  abbrev pub door : LentCall
+  door = a-door stores
+
+  -- of a call that leaves the card
+  abbrev pub window : ((h : Card) → Left h → (x : Xs ps) → h ≡ stored (step (view h) (c x) .after)) → LentCall
+  window stays = a-door (leaves (λ h x r left e. ap (S .kind .it) e ∙ S .leaves (step (view h) (c x)) ∙ sym (stays h left x)))
 
 -- ---- the four sorts
 pub done-leaves : (o : Outcome) → changedBy o .card ≡ stored (o .after)

@@ -91,7 +91,6 @@ pub extern "C" fn toolkit_ask_event(card: &mut Card, applet: u8, value: i16) -> 
 {
     let before = *card;
     let after = before.ask_event(applet, value);
-    *card = after.card;
     paper::of_told(after.answer)
 }
 
@@ -193,7 +192,6 @@ pub extern "C" fn toolkit_envelope(card: &mut Card, bytes: &[u8]) -> Answer
 {
     let before = *card;
     let after = before.envelope(bytes);
-    *card = after.card;
     paper::of_called(after.answer)
 }
 

@@ -91,7 +91,10 @@ pub extern "C" fn toolkit_read_menu(bytes: &[u8]) -> Menu
 pub extern "C" fn toolkit_bank_allocate(bank: &mut Bank, applet: u8, limit: u8) -> Answer
     ensures { λ r. ⌜ Allots (now (bank .entry)) applet limit r (now (bank .exit)) ⌝ }
 {
-    paper::of_given(lent::allocate_in(bank, applet, limit))
+    let before = *bank;
+    let after = timers::allocate(before, applet, limit);
+    *bank = after.bank;
+    paper::of_given(after.answer)
 }
 
 // Frees a timer of an applet in a bank.
@@ -99,5 +102,8 @@ pub extern "C" fn toolkit_bank_allocate(bank: &mut Bank, applet: u8, limit: u8) 
 pub extern "C" fn toolkit_bank_release(bank: &mut Bank, applet: u8, timer: u8) -> Answer
     ensures { λ r. ⌜ Frees (now (bank .entry)) applet timer r (now (bank .exit)) ⌝ }
 {
-    paper::of_done(lent::release_in(bank, applet, timer))
+    let before = *bank;
+    let after = timers::release(before, applet, timer);
+    *bank = after.bank;
+    paper::of_done(after.answer)
 }

@@ -5,17 +5,18 @@ use mathlib.Core.List.{[], _∷_}
 use denote.Ref.{now}
 use Rattle.rules.specs.Calls.{arrival, envelope}
 use Rattle.card.specs.Kinds.{is-arrival}
+use Rattle.card.proofs.Envelope.{envelope-stays}
 use Rattle.card.proofs.Card.envelope.Symbol as g
 use Rattle.card.proofs.Card.envelope.Met as g-thm
 use Rattle.lent.proofs.Walk.{LentCall, opened}
 use Rattle.toolkit.proofs.Params.{bytes}
-use Rattle.toolkit.proofs.Doors.{door, names, by-of-called}
+use Rattle.toolkit.proofs.Doors.{window, names, by-of-called}
 use Rattle.toolkit.proofs.calls.toolkit_envelope.Key.{name as #f}
 use Rattle.toolkit.proofs.calls.toolkit_envelope.Statement as stated
 use Rattle.toolkit.proofs.calls.toolkit_envelope.Code as code
 
 abbrev at-card : LentCall
-at-card = door names 1 (bytes ∷ []) g.name (λ x. arrival (envelope (now (x .0)))) (λ x. is-arrival _) (λ x. tt)
+at-card = window names 1 (bytes ∷ []) g.name (λ x. arrival (envelope (now (x .0)))) (λ x. is-arrival _) (λ x. tt) (λ h left x. envelope-stays h left _)
 
 pub toolkit-envelope-spec : {M : Type 1} → stated.statement M
 unfolding code.routine
