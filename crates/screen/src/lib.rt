@@ -4,7 +4,7 @@ use rules::Row;
 use rules::Rows;
 ghost use mathlib.Core.Path.{_≡_};
 ghost use mathlib.Core.Bool.{not, _&&_, _||_};
-ghost use Rattle.lists.specs.Tests.{if_then_else_, _==_};
+ghost use Rattle.lists.specs.Tests.{_==_};
 ghost use Rattle.lists.specs.Lists.{same?};
 ghost use Rattle.rules.specs.Held.{viewRow, viewRows, TidyRows};
 ghost use Rattle.menu.specs.Table.{TidyRow};
@@ -14,9 +14,11 @@ ghost use Rattle.screen.specs.Asked.{askedOwner, hasEnabledRow, isShown,
 fn is_asked(row: Row, identifier: u8, help: bool) -> bool
     ensures { λ r. ⌜ r ≡ (row .identifier == identifier && row .enabled && (row .help || not help)) ⌝ }
 {
-    let named = row.identifier == identifier;
-    let helps = row.help | !help;
-    named & row.enabled & helps
+    if row.identifier == identifier {
+        let helps = row.help | !help;
+        return row.enabled & helps;
+    }
+    false
 }
 
 // The applet that a menu choice is for, or a request for help: the owner of the row for which it counts; 0 where there is none.
@@ -78,15 +80,17 @@ pub fn has_shown_row(rows: Rows, selectable: u8) -> bool
     requires { ⌜ TidyRows rows ⌝ }
     ensures { λ r. ⌜ r ≡ hasShownRow selectable (viewRows rows) ⌝ }
 {
-    let mut any = false;
+    let n = rows.count as usize;
     let mut i = 0;
-    while i < Rows::MOST {
+    while i < n {
         let row = rows.at[i];
         let is = is_shown(row, selectable);
-        any = any | is;
+        if is {
+            return true;
+        }
         i += 1;
     }
-    any
+    false
 }
 
 // The row's text is this one.

@@ -1,11 +1,12 @@
--- `asked_owner` meets its contract. The invariant: a choice counts for none of the first i rows.
+-- `asked_owner` meets its contract. The invariant: none of the first i rows is asked for.
 -- Assumes nothing.
 use Prim.Native.Nat.{_-_}
 use mathlib.Core.Path.{sym, _∙_}
 use native.Mathlib.Omega.{arith}
-use Rattle.lists.proofs.Search.{Sought, sought-none, sought-more}
+use Rattle.lists.proofs.Search.{Sought, sought-none, sought-more, sought-hit}
+use Rattle.lists.proofs.Looking.{sought-end}
 use Rattle.menu.proofs.Tidy.{long}
-use Rattle.screen.proofs.Answers.{askedAt, asked-hit, asked-end}
+use Rattle.screen.proofs.Answers.{askedAt, asked-here, asked-nowhere}
 use borrow.Author.Needs.{needs}
 use Rattle.screen.proofs.asked_owner.Statement.{statement}
 use Rattle.screen.proofs.asked_owner.Tie as tie
@@ -35,7 +36,7 @@ returns : tie.Need-returns Inv-loop μ-loop
 returns c =
     let b = c .before .before .before .before in
     let l = long _ (b .before .pre) in
-    asked-hit _ (omega arith) _ _ _ _ (search needs) (sym (c .before .is-asked .ensures) ∙ c .if1 .taken) (b .loop .inv)
+    asked-here _ (b .before .pre) _ _ (sought-hit _ _ _ (omega arith) _ _ (search needs) (sym (c .before .is-asked .ensures) ∙ c .if1 .taken) (b .loop .inv)) _ (search needs) (omega arith)
 
 add-i : tie.Need-add-i Inv-loop μ-loop
 add-i c = search needs
@@ -53,7 +54,7 @@ returns-2 : tie.Need-returns-2 Inv-loop μ-loop
 returns-2 c =
     let b = c .before in
     let l = long _ (b .before .pre) in
-    asked-end _ (omega arith) _ _ _ (search needs) (b .loop .inv)
+    asked-nowhere _ (b .before .pre) _ _ (sought-end _ _ _ _ (omega arith) (search needs) (b .loop .inv)) (search needs) (omega arith)
 
 pub asked-owner-spec : {M : Type 1} → statement M
 asked-owner-spec =

@@ -1,25 +1,27 @@
--- `has_shown_row` meets its contract.
--- Assumes nothing.
-use Rattle.rules.specs.Held.{viewRow}
--- `has_shown_row` meets its contract. The invariant: what the rows passed say, joined with what is left of the array, is the answer.
+-- `has_shown_row` meets its contract. The invariant: whether one of the rows is it is told by those from i on.
 -- Assumes nothing.
 use Prim.Native.Nat.{_-_}
+use mathlib.Core.Path.{sym, _∙_}
 use native.Mathlib.Omega.{arith}
-use borrow.Author.Needs.{needs}
-use Rattle.lists.proofs.Looking.{Joining, joining-none, joining-more, joining-all}
+use Rattle.lists.proofs.Looking.{Looking, looking-none, looking-more, looking-hit, looking-all}
 use Rattle.menu.proofs.Tidy.{long}
 use Rattle.screen.proofs.Answers.{shownTo, shown-row}
+use borrow.Author.Needs.{needs}
+use Rattle.rules.specs.Held.{viewRow}
 use Rattle.screen.proofs.has_shown_row.Statement.{statement}
 use Rattle.screen.proofs.has_shown_row.Tie as tie
 
 abbrev Inv-loop : tie.InvT-loop
-Inv-loop selectable rows any₀ i₀ any i = Joining (shownTo selectable) (rows .at) any i
+Inv-loop selectable rows n i₀ i = Looking (shownTo selectable) (rows .at) n i
 
 abbrev μ-loop : tie.MeasureT-loop
-μ-loop selectable rows any₀ i₀ any i = 12 - i
+μ-loop selectable rows n i₀ i = n - i
+
+cast-n : tie.Need-cast-n Inv-loop μ-loop
+cast-n c = search needs
 
 loop-holds : tie.Need-loop-holds Inv-loop μ-loop
-loop-holds c = joining-none _ _
+loop-holds c = looking-none _ _ _
 
 mul-row : tie.Need-mul-row Inv-loop μ-loop
 mul-row c = search needs
@@ -30,6 +32,13 @@ element-copy-out-row c = search needs
 is-shown-requires : tie.Need-is-shown-requires Inv-loop μ-loop
 is-shown-requires c κs = search needs
 
+returns : tie.Need-returns Inv-loop μ-loop
+unfolding viewRow
+returns c =
+    let b = c .before .before .before .before in
+    let l = long _ (b .before .pre) in
+    shown-row _ _ (looking-hit _ _ _ (omega arith) _ _ (search needs) (sym (c .before .is-shown .ensures) ∙ c .if1 .taken) (b .loop .inv))
+
 add-i : tie.Need-add-i Inv-loop μ-loop
 add-i c = search needs
 
@@ -39,15 +48,15 @@ loop-less c = search needs
 loop-again : tie.Need-loop-again Inv-loop μ-loop
 unfolding viewRow
 loop-again c =
-    let b = c .before .before .before in
+    let b = c .before .before .before .before in
     let l = long _ (b .before .pre) in
-    joining-more _ _ _ _ _ (omega arith) (c .is-shown .ensures) (b .loop .inv)
+    looking-more _ _ _ (omega arith) _ _ (search needs) (sym (c .before .is-shown .ensures) ∙ c .if1 .left) (b .loop .inv)
 
-returns : tie.Need-returns Inv-loop μ-loop
-returns c =
+returns-2 : tie.Need-returns-2 Inv-loop μ-loop
+returns-2 c =
     let b = c .before in
     let l = long _ (b .before .pre) in
-    shown-row _ (b .before .pre) _ (joining-all _ _ _ _ (omega arith) (b .loop .inv))
+    shown-row _ _ (looking-all _ _ _ (omega arith) _ (search needs) (b .loop .inv))
 
 pub has-shown-row-spec : {M : Type 1} → statement M
 has-shown-row-spec =
@@ -55,11 +64,13 @@ has-shown-row-spec =
     (tie.spec
     Inv-loop
     μ-loop
+    cast-n
     loop-holds
     mul-row
     element-copy-out-row
     is-shown-requires
+    returns
     add-i
     loop-less
     loop-again
-    returns)
+    returns-2)
