@@ -1,18 +1,16 @@
--- Laws of loops that look for one that passes, join what all say, or compare two lists from the front; and of a search among pictures.
+-- Laws of loops that look for one that passes or compare two lists from the front; and of a search among pictures.
 -- Assumes nothing.
 use Prim.Native.Nat.{ℕ, _+_, _≤_, _<_}
 use native.Mathlib.Omega.{arith}
 use native.Mathlib.Numerals.{add-one}
 use mathlib.Core.Path.{_≡_, refl, sym, ap, _∙_}
 use mathlib.Core.List.{List, [], _∷_, map}
-use mathlib.Core.Bool.{Bool, true, false, _&&_, _||_}
+use mathlib.Core.Bool.{Bool, true, false, _&&_}
 use lib.ListN.{length, take, drop, getD, drop-of-length-le}
 use lib.Seq.{drop-cons, getD-take, length-take-le}
 use Rattle.lists.specs.Tests.{if_then_else_}
 use Rattle.lists.specs.Lists.{some?, alike?, indexOf, first}
 use Rattle.lists.proofs.Search.{Sought, index-none}
-use Rattle.lists.proofs.Truth.{or-assoc, or-false}
-use Rattle.lists.proofs.Walk.{drop-step}
 
 -- what stands behind the first i of the first n elements of an array
 left-at : {A : Type 0} (row : List A) (n : ℕ) → n ≤ length row → (i : ℕ) (d : A) → i < n → drop i (take n row) ≡ getD row i d ∷ drop (i + 1) (take n row)
@@ -50,27 +48,6 @@ module _ {A : Type 0} (p : A → Bool) where
     pub looking-all : (i : ℕ) → n ≤ i → Looking row n i → false ≡ some? p (take n row)
     unfolding some?
     looking-all i h o = sym (o .left ∙ ap (some? p) (left-none row n long i h))
-
-  -- a loop that joins what each of an array says, and has passed i
-  pub record Joining (row : List A) (any : Bool) (i : ℕ) : Type 0 where
-    pub within : i ≤ length row
-    pub left : some? p row ≡ (any || some? p (drop i row))
-
-  pub joining-none : (row : List A) → Joining row false 0
-  joining-none row = record { within = omega arith; left = refl }
-
-  module _ (row : List A) (any : Bool) where
-    pub joining-more : {is : Bool} (i : ℕ) (d : A) → i < length row → is ≡ p (getD row i d) → Joining row any i → Joining row (any || is) (i + 1)
-    unfolding some?
-    joining-more i d h e o =
-        record {
-          within = omega arith;
-          left = o .left ∙ rw (drop-step row i d h, e) (sym (or-assoc any (p (getD row i d)) (some? p (drop (i + 1) row))));
-        }
-
-    pub joining-all : (i : ℕ) → length row ≤ i → Joining row any i → any ≡ some? p row
-    unfolding some?
-    joining-all i h o = sym (o .left ∙ rw (drop-of-length-le row h) (or-false any))
 
 module _ {A : Type 0} (e : A → A → Bool) where
   -- a loop that compares the first n elements of an array with a list of n, and has found i of them alike
