@@ -17,7 +17,7 @@ use ghost.Atoms.{Atoms}
 use contract.Monad.{Fun, fact}
 use contract.Running.{givenOf}
 use types.Kit.{Given, Item, ‵, raw, _⊛_, ⋆, some, later, _$_, _∵_, !, qed, by, move, keep, drop, use1, use2, split, join, pick, fsplit, fsplit3, fjoin, fjoin3, feqI, feqL, rewrite, suffices, frame, await, done}
-use types.Run.{look, look-raw, init, store-raw, forget, stop, hop, fld, from, load, addr, and-then, no-more, of-opd, assigns, land, returns, enter, alloc1, alloc0, params1, pass1, pass0, free1, free0}
+use types.Run.{look, look-raw, init, forget, stop, hop, fld, from, load, addr, and-then, no-more, of-opd, assigns, land, returns, enter, alloc1, alloc0, params1, pass1, pass0, free1, free0}
 use types.Part.{agg, whole, sub, look-in}
 use types.SemTy.{Body}
 use sound.WpLaws.{FmC, fmOf, WpFn-mono}
@@ -45,8 +45,6 @@ use Rattle.card.specs.Reply.{numberedBy}
 use Rattle.card.specs.declared.Card.{Card}
 use Rattle.card.specs.declared.Numbered.{Numbered}
 use Rattle.paper.specs.declared.Answer.{Answer}
-use Rattle.paper.proofs.of_given.Symbol as of-given
-use Rattle.paper.proofs.of_given.Met as of-given-thm
 use Rattle.card.specs.Kinds.{is-command}
 use Rattle.card.proofs.Card as B
 use Rattle.card.proofs.Card.Laws as B′
@@ -58,9 +56,10 @@ use Rattle.card.proofs.Card.system_command.Symbol as g-def
 use Rattle.card.proofs.Card.system_command.Symbol.{name as #g}
 use Rattle.card.proofs.Card.system_command.Met as g-thm
 use Rattle.toolkit.specs.Does.{Does}
-use Rattle.lent.proofs.Results.{Writing, Known, finishes}
-use Rattle.toolkit.proofs.Answers.{numbered, answer}
-use Rattle.toolkit.proofs.Doors.{gives, ending, sort-does}
+use Rattle.lent.proofs.Results.{valsOf, stores, stands, Known, finishes}
+use Rattle.lent.proofs.Walk.{known-writer}
+use Rattle.toolkit.proofs.Answers.{card, numbered}
+use Rattle.toolkit.proofs.Doors.{gives, ending, sort-does, by-of-given}
 use Rattle.toolkit.proofs.calls.toolkit_system_command.Key.{name as #f}
 use Rattle.toolkit.proofs.calls.toolkit_system_command as f
 use Rattle.toolkit.proofs.calls.toolkit_system_command.Statement as stated
@@ -71,12 +70,6 @@ Bytes = RefT (List ℕ)
 
 abbrev stayed : Stays (f.ended .signature .params) (f.ended .kept)
 stayed = (stay-ref (0 ∷ []) tt (plain (λ _. B.the-row)), (gave-slice (1 ∷ []) tt (plain (λ _. u8)), tt))
-
-abbrev cardVals : Card → List Val
-cardVals = LL.vals B.the-type B′.the-laws
-
-part-card : (r : Numbered) (v : Val) → Is R.the-row r (v ∷ []) → Is B.the-row (r .card) (cardVals (r .card))
-part-card r v is = LL.owed R.the-type R′.the-laws r (v ∷ []) is .0
 
 -- the contract that the proof cites
 abbrev Callee : {M : Type 1} (𝓤 : URA M) (H : Heap 𝓤) (A : Atoms 𝓤) (at-mem : Memory → SProp 𝓤) (run : Routine → Fun 𝓤) → Contract 𝓤
@@ -122,9 +115,9 @@ module _ {M : Type 1} (𝓤 : URA M) (H : Heap 𝓤) (A : Atoms 𝓤) (W : Given
       nothing ! $ move ! (3 ∷ 0 ∷ []) $ fjoin ! $ move ! (1 ∷ 0 ∷ []) $ fjoin ! $ done !
 
   abbrev to-callee : Callee 𝓤 H A at-mem run .Ghost
-  to-callee = (((κ₁, tt), (q₁, tt), tt, (h, (y, tt)), (cardVals h, (yv ∷ [], tt))), tt)
+  to-callee = (((κ₁, tt), (q₁, tt), tt, (h, (y, tt)), ((valsOf card) h, (yv ∷ [], tt))), tt)
 
-  goes-callee : Left h → Is B.the-row h (cardVals h) → ent 𝓤 (⋆ 𝓤 H A (Tokens ∷ ‵ Out ∷ [])) (Callee 𝓤 H A at-mem run .pre to-callee)
+  goes-callee : Left h → Is B.the-row h ((valsOf card) h) → ent 𝓤 (⋆ 𝓤 H A (Tokens ∷ ‵ Out ∷ [])) (Callee 𝓤 H A at-mem run .pre to-callee)
   goes-callee sound was =
       qed W (Tokens ∷ ‵ Out ∷ []) ∵ says ! sound $ frame ! $ nothing ! $ move ! (1 ∷ 0 ∷ []) $ fjoin ! $ owned ! B.the-row (Is B.the-row) (LL.makes B.the-type B′.the-plain 𝓤 H A) h _ was $ fjoin ! $ done !
 
@@ -138,8 +131,8 @@ module _ {M : Type 1} (𝓤 : URA M) (H : Heap 𝓤) (A : Atoms 𝓤) (W : Given
         enter ! C Λ code.function (vptr b o ∷ yv ∷ []) _ $
         alloc1 ! (λ l₀. alloc1 ! (λ l₁. alloc1 ! (λ l₂. alloc1 ! (λ l₃. alloc1 ! (λ l₄. alloc1 ! (λ l₅. alloc1 ! (λ l₆. alloc0 ! $
         params1 ! $ pass1 ! (init ! 10 refl (tt, tt)) $ pass1 ! (init ! 8 refl (tt, (tt, (record { fits = is-out .0 .1 .0 }, tt)))) $ pass0 ! $
-        move ! (14 ∷ 15 ∷ 16 ∷ []) $ opens ! tt B.the-row {h = h} b o (λ vs. spelt ! B.the-row (Is B.the-row) (shows 𝓤 H A B.the-row) cardVals (LL.tells B.the-type B′.the-laws) fullShare h vs b o $
-        move ! (1 ∷ []) $ peeks ! B.the-row (Is B.the-row) (shows 𝓤 H A B.the-row) h (cardVals h) (λ was. move ! (1 ∷ 0 ∷ []) $
+        move ! (14 ∷ 15 ∷ 16 ∷ []) $ opens ! tt B.the-row {h = h} b o (λ vs. spelt ! B.the-row (Is B.the-row) (shows 𝓤 H A B.the-row) (valsOf card) (LL.tells B.the-type B′.the-laws) fullShare h vs b o $
+        move ! (1 ∷ []) $ peeks ! B.the-row (Is B.the-row) (shows 𝓤 H A B.the-row) h ((valsOf card) h) (λ was. move ! (1 ∷ 0 ∷ []) $
         -- [0 the card's cell; 1 what a Card owns; 2 the open borrow; 3 obs; 4 auth; 5 _6; 7 _5; 9 _4; 11 _3; 13 _2; 15 _1; 17 _0; 19 out; 20 true; 21 the token]
         assigns ! (of-opd ! (load ! (from ! (hop ! (look ! 15 refl) (stop !))) (look-raw ! 0 refl))) (from ! (stop !)) (init ! 11 refl (LL.lawful B.the-type B′.the-laws 𝓤 H A W .typed h _ was .0)) $
         assigns ! (addr ! (from ! (fld ! refl (hop ! (look-in ! 13 (sub ! 0 refl (whole !))) (stop !))))) (from ! (stop !)) (init ! 7 refl (tt, tt)) $
@@ -154,19 +147,18 @@ module _ {M : Type 1} (𝓤 : URA M) (H : Heap 𝓤) (A : Atoms 𝓤) (W : Given
         split ! $ move ! (1 ∷ []) $ heard ! (Said h (y .now) r (ws .1 .0)) (λ e. fsplit ! $ drop ! $ fsplit ! $ fsplit ! $ move ! (1 ∷ []) $ feqL ! (λ len.
         move ! (2 ∷ []) $ split ! $ move ! (1 ∷ []) $ peeks ! R.the-row (Is R.the-row) (shows 𝓤 H A R.the-row) r (v ∷ []) (λ is.
         -- [0 what the result owns; 1 the token; 2 the last list; 3 true; 4 the card's cell; 5 what a Card owns; 6 the open borrow; 7 obs; 8 auth; 9 _6; 11 _5; 13 _4; 15 _3; 17 _2; 19 _1; 21 _0; 23 true]
-        land ! (from ! (stop !)) (init ! 13 refl (LL.lawful R.the-type R′.the-laws 𝓤 H A W .typed r _ is .0)) $
+        land ! (from ! (stop !)) (init ! 13 refl (numbered .result-typed 𝓤 H A W r v is)) $
         rewrite ! 13 (λ (u : Val). ‵ (fat fullShare R′.mir l₄ 0 u)) (numbered .spelled r v is) refl $
-        assigns ! (of-opd ! (load ! (from ! (fld ! refl (stop !))) (look-in ! 13 (sub ! 0 refl (whole !))))) (from ! (hop ! (look ! 19 refl) (stop !)))
-        (store-raw ! 4 refl (LL.lawful B.the-type B′.the-laws 𝓤 H A W .typed (r .card) _ (part-card r v is) .0)) $
-        move ! (4 ∷ 0 ∷ 5 ∷ 6 ∷ 7 ∷ 8 ∷ 1 ∷ 2 ∷ 13 ∷ 14 ∷ 15 ∷ 16 ∷ 19 ∷ 20 ∷ 21 ∷ 22 ∷ []) $
-        -- [0 the card's cell; 1 what the result owns; 2 what a Card owns; 3 the open borrow; 4 obs; 5 auth; 6 the token; 7 the last list; 8 _4; 10 _3; 12 _1; 14 _0; 16 true; 17 _6; 19 _5; 21 _2; 23 true]
+        move ! (0 ∷ 1 ∷ 2 ∷ 4 ∷ 5 ∷ 6 ∷ 7 ∷ 8 ∷ 13 ∷ 14 ∷ 15 ∷ 16 ∷ 19 ∷ 20 ∷ 21 ∷ 22 ∷ []) $
+        -- [0 what the result owns; 1 the token; 2 the last list; 3 the card's cell; 4 what a Card owns; 5 the open borrow; 6 obs; 7 auth; 8 _4; 10 _3; 12 _1; 14 _0; 16 true; 17 _6; 19 _5; 21 _2; 23 true]
+        stands numbered 𝓤 H A W C Λ {Same = ⊥} stores ! 4 l₄ l₁ b o h r v is refl (λ n. absurd n) $
         finishes 𝓤 H A W C Λ fm (ending gives) known-writer ! 4 l₄ l₀ r v is refl (λ w u p.
-        owned ! B.the-row (Is B.the-row) (LL.makes B.the-type B′.the-plain 𝓤 H A) (r .card) _ (part-card r v is) $ move ! (2 ∷ 0 ∷ 5 ∷ 6 ∷ 7 ∷ []) $
-        closes ! tt B.the-row (r .card) (cardVals (r .card)) b o $
-        -- [0 obs; 1 the borrow; 2 the token; 3 what the answer owns; 4 what the result owns; 5 what a Card owns; 6 the other token; 7 the last list; 8 _4; 10 _3; 12 _1; 14 _0; 16 true; 17 _6; 19 _5; 21 _2; 23 true]
+        owned ! B.the-row (Is B.the-row) (LL.makes B.the-type B′.the-plain 𝓤 H A) (r .card) _ (numbered .has-it r v is) $ move ! (5 ∷ 0 ∷ 7 ∷ 8 ∷ 9 ∷ []) $
+        closes ! tt B.the-row (r .card) ((valsOf card) (r .card)) b o $
+        -- [0 obs; 1 the borrow; 2 the token; 3 what the answer owns; 4 what the result owns; 5 the other token; 6 the last list; 7 what a Card owns; 8 _4; 10 _3; 12 _1; 14 _0; 16 true; 17 _6; 19 _5; 21 _2; 23 true]
         returns ! (look ! 14 refl) $ forget ! 8 refl $ forget ! 10 refl $ forget ! 12 refl $ forget ! 14 refl $ forget ! 17 refl $ forget ! 19 refl $ forget ! 21 refl $
         move ! (14 ∷ 15 ∷ []) $ free1 ! $ move ! (12 ∷ 13 ∷ []) $ free1 ! $ move ! (17 ∷ 18 ∷ []) $ free1 ! $ move ! (10 ∷ 11 ∷ []) $ free1 ! $ move ! (8 ∷ 9 ∷ []) $ free1 ! $ move ! (11 ∷ 12 ∷ []) $ free1 ! $ move ! (9 ∷ 10 ∷ []) $ free1 ! $ free0 ! $
-        keep ! (0 ∷ 1 ∷ 2 ∷ 3 ∷ 6 ∷ 7 ∷ []) $ by ! (exits (r .card) w u (ws .1 .0) len (sort-does gives h sound (is-command (y .now)) r w (e .0) p (e .1)))))))))))))))))))
+        keep ! (0 ∷ 1 ∷ 2 ∷ 3 ∷ 5 ∷ 6 ∷ []) $ by ! (exits (r .card) w u (ws .1 .0) len (sort-does gives h sound (is-command (y .now)) r w (e .0) p (e .1)))))))))))))))))))
 
 module _ {M : Type 1} (𝓤 : URA M) (H : Heap 𝓤) (A : Atoms 𝓤) (W : Given 𝓤 H A) (at-mem : Memory → SProp 𝓤) (run : Routine → Fun 𝓤) where
   walks : (C : Calls 𝓤 H) (Λ : Loops 𝓤 H) → FmC 𝓤 H (W .laws) C → Triple 𝓤 (C #g) (Callee 𝓤 H A at-mem run) → Known 𝓤 H A (ending gives) C → Walks 𝓤 H A f.ended stayed (WpFn 𝓤 H C Λ code.function) (f.clauses 𝓤 H A at-mem run)
@@ -186,4 +178,4 @@ toolkit-system-command-spec 𝓤 H 𝓜 𝓖 𝓡 =
     any-entry 𝓤 H 𝓜 𝓖 𝓡 code.env (tripleOf 𝓤 H (𝓖 .A) f.signature (f.spec 𝓤 H (𝓖 .A) (𝓜 .mem) (𝓡 .run))) #f code.function (code.unfolded 𝓤 H 𝓜 𝓡)
     (meets 𝓤 H (𝓖 .A) (givenOf 𝓤 H 𝓜 𝓖) (𝓜 .mem) (𝓡 .run) (Over 𝓤 H 𝓜 𝓖 𝓡 code.env)
     (known-at 𝓤 H 𝓜 𝓖 𝓡 code.env (Callee 𝓤 H (𝓖 .A) (𝓜 .mem) (𝓡 .run)) #g g-def.routine refl (g-thm.met 𝓤 H 𝓜 𝓖 𝓡))
-    (known-at 𝓤 H 𝓜 𝓖 𝓡 code.env (Writing numbered answer (gives .says) 𝓤 H (𝓖 .A)) of-given.name of-given.routine refl (of-given-thm.met 𝓤 H 𝓜 𝓖 𝓡)))
+    (known-writer 𝓤 H 𝓜 𝓖 𝓡 code.env (ending gives) (by-of-given 𝓤 H 𝓜 𝓖 𝓡 code.env refl)))
