@@ -91,10 +91,7 @@ pub extern "C" fn toolkit_read_menu(bytes: &[u8]) -> Menu
 pub extern "C" fn toolkit_bank_allocate(bank: &mut Bank, applet: u8, limit: u8) -> Answer
     ensures { λ r. ⌜ Allots (now (bank .entry)) applet limit r (now (bank .exit)) ⌝ }
 {
-    let before = *bank;
-    let after = timers::allocate(before, applet, limit);
-    *bank = after.bank;
-    paper::of_given(after.answer)
+    paper::of_given(lent::allocate_in(bank, applet, limit))
 }
 
 // Frees a timer of an applet in a bank.
@@ -102,8 +99,5 @@ pub extern "C" fn toolkit_bank_allocate(bank: &mut Bank, applet: u8, limit: u8) 
 pub extern "C" fn toolkit_bank_release(bank: &mut Bank, applet: u8, timer: u8) -> Answer
     ensures { λ r. ⌜ Frees (now (bank .entry)) applet timer r (now (bank .exit)) ⌝ }
 {
-    let before = *bank;
-    let after = timers::release(before, applet, timer);
-    *bank = after.bank;
-    paper::of_done(after.answer)
+    paper::of_done(lent::release_in(bank, applet, timer))
 }
