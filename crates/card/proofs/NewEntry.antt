@@ -9,17 +9,14 @@ use lib.ListN.{length, take, getD}
 use lib.Seq.{take-all}
 use borrow.Author.Tests.{ne-eqb}
 use Rattle.lists.specs.Tests.{if_then_else_, _==_, _≤?_}
-use Rattle.lists.specs.Lists.{insertAt}
 use Rattle.sets.specs.Sets.{has?}
 use Rattle.rules.specs.declared.Given.{Given}
 use Rattle.rules.specs.declared.Grant.{Grant}
 use Rattle.rules.specs.declared.Pair.{Pair}
-use Rattle.rules.specs.declared.Row as held
-use Rattle.rules.specs.declared.Rows.{Rows}
 use Rattle.rules.specs.Holds.{Applet, Row, Bounds, Tables, withOneMore}
-use Rattle.rules.specs.Held.{viewRow, viewRows, storedRow, storedRows}
+use Rattle.rules.specs.Held.{viewRows, storedRows}
 use Rattle.rules.specs.Applets.{nobody, present, applet, entries}
-use Rattle.rules.specs.Rows.{noPair, place, identifierFor, nextPair, nextIdentifier, withEntry}
+use Rattle.rules.specs.Rows.{noPair, nextPair, nextIdentifier, withEntry}
 use Rattle.rules.specs.Calls.{entry, newEntry, only, numbered}
 use Rattle.rules.specs.Refusals.{line, lowest, refusal}
 use Rattle.rules.specs.Step.{step, outcome, entryTables, answer, entryAnswer}
@@ -30,8 +27,9 @@ use Rattle.runs.proofs.Room.{entry-room}
 use Rattle.applets.specs.ByNumber.{byNumber, grantOf, madeWith}
 use Rattle.applets.proofs.Numbers.{roll-kept, selectable-kept, registered-kept}
 use Rattle.applets.proofs.Made.{made-more, pair-next}
-use Rattle.menu.specs.Table.{newRow, withRow, TidyRow}
-use Rattle.menu.proofs.Tidy.{row-back, tidy-row, inserted-room}
+use Rattle.menu.proofs.Tidy.{inserted-room}
+use Rattle.rows.specs.declared.Added.{Added}
+use Rattle.rows.specs.ItsRow.{enteredBy}
 use Rattle.screen.proofs.MenuByApplets.{entry-menu}
 use Rattle.downloads.proofs.Quiet.{entry-events}
 use Rattle.refusals.specs.Lines.{unfitText}
@@ -45,26 +43,16 @@ use Rattle.card.proofs.Reply.{gives, made-form}
 use Rattle.card.proofs.Present.{present-by, grant-is, made-is}
 use Rattle.card.proofs.EntryRows.{withEntries, entry-after, entry-refused, entry-card, selectable-there}
 
--- a row that is stored stands in its one form
-pub row-tidy : {r : held.Row} (s : Row) → r ≡ storedRow s → TidyRow r
-row-tidy s e = rw e (tidy-row s)
-
--- the rows with the new one
-rows-are
-    : (a : Applet) (n : ℕ) (help : Bool) (text : List ℕ) (rows : List Row) {p : Pair} {i : ℕ} {r : held.Row} {next : Rows}
+-- the rows with the new one, and its identifier
+entered-is
+    : (a : Applet) (n : ℕ) (help : Bool) (text : List ℕ) (rows : List Row) {p : Pair}
     → a .number ≡ n
     → p ≡ nextPair a
-    → i ≡ identifierFor (p .identifier) rows
-    → r ≡ storedRow (newRow i n help text)
-    → next ≡ storedRows (insertAt (place (p .position) (length rows)) (viewRow r) rows)
-    → next ≡ storedRows (withEntry a help text rows)
-unfolding withEntry nextIdentifier
-rows-are a n help text rows {p} {i} {r} own is f g h =
-    let row : viewRow r ≡ newRow (identifierFor (nextPair a .identifier) rows) (a .number) help text =
-    ap viewRow g
-    ∙ row-back (newRow i n help text)
-    ∙ ap₂ (λ (k m : ℕ). newRow k m help text) (f ∙ ap (λ (q : Pair). identifierFor (q .identifier) rows) is) (sym own) in
-    h ∙ ap₂ (λ (q : Pair) (y : Row). storedRows (insertAt (place (q .position) (length rows)) y rows)) is row
+    → take 15 text ≡ text
+    → length rows < 12
+    → enteredBy p n help text rows ≡ record { rows = storedRows (withEntry a help text rows); identifier = nextIdentifier a rows }
+unfolding enteredBy withEntry nextIdentifier
+entered-is a n help text rows own is whole room = rw (← own, is, whole, inserted-room _ _ rows room) refl
 
 module _ (c : Card) (left : Left c) (n : ℕ) (help : Bool) (text : List ℕ) {there : Bool} (found : there ≡ has? (c .roll .present) n)
     {g : Grant} (granted : g ≡ byNumber (grantOf nobody) (c .roll .grants) n) {k : ℕ} (counted : k ≡ byNumber 0 (c .made) n)
@@ -112,8 +100,8 @@ module _ (c : Card) (left : Left c) (n : ℕ) (help : Bool) (text : List ℕ) {t
       whole : take 15 text ≡ text
       whole = take-all 15 text (omega (arith, news .fits .to, sound-applet t sound n (news .here) .text, ap (λ (b : Bounds). b .text) (left-bounds c left)))
 
-      put : (p : ℕ) (new : Row) → withRow p new (t .rows) ≡ insertAt (place p (length (t .rows))) new (t .rows)
-      put p new = inserted-room p new (t .rows) (omega (arith, entry-room t sound n (news .here) (news .more), ap (λ (b : Bounds). b .rows) (left-bounds c left)))
+      room : length (t .rows) < 12
+      room = omega (arith, entry-room t sound n (news .here) (news .more), ap (λ (b : Bounds). b .rows) (left-bounds c left))
 
       -- there is room for one entry more
       pub made-few : k < 4
@@ -124,22 +112,21 @@ module _ (c : Card) (left : Left c) (n : ℕ) (help : Bool) (text : List ℕ) {t
       u = entryTables t (newEntry n help text)
 
       pub new-accepted
-          : {p : Pair} {i j : ℕ} {row : held.Row} {next : Rows} {more : List ℕ} {turns y : Bool} {s : Card} {a : Given}
-          → a ≡ givenOf (if r == 0 then numbered j else only r)
+          : {p : Pair} {i : ℕ} {e : Added} {more : List ℕ} {turns y : Bool} {s : Card} {a : Given}
+          → a ≡ givenOf (if r == 0 then numbered i else only r)
           → p ≡ getD (g .pairs) k noPair
-          → i ≡ identifierFor (p .identifier) (viewRows (c .rows))
-          → row ≡ storedRow (newRow i n help (take 15 text))
-          → next ≡ storedRows (withRow (p .position) (viewRow row) (viewRows (c .rows)))
+          → e ≡ enteredBy p n help text (viewRows (c .rows))
           → more ≡ madeWith (c .made) n (k + 1)
           → turns ≡ has? (c .selectable) n
           → y ≡ (c .desk .session && turns || c .desk .due .menu)
-          → s ≡ withEntries c more next y
-          → j ≡ i
+          → s ≡ withEntries c more (e .rows) y
+          → i ≡ e .identifier
           → _≡_ {A = Numbered} (record { card = s; answer = a }) (numberedBy (step (view c) (entry (newEntry n help text))))
-      unfolding entryTables nextIdentifier view present applet
-      new-accepted {p} {i} {j} {row} says pp ii rr nx mm tu y is ji =
+      unfolding entryTables view present applet
+      new-accepted {p} {e = e} says pp ee mm tu y is ii =
           let here = news .here in
           let pair : p ≡ nextPair x = pp ∙ ap₂ (λ (h : Grant) (m : ℕ). getD (h .pairs) m noPair) grant-of made-of ∙ pair-next x (news .more) in
+          let both : e ≡ record { rows = storedRows (withEntry x help text (t .rows)); identifier = nextIdentifier x (t .rows) } = ee ∙ entered-is x n help text (t .rows) (has-its-number t n here) pair whole room in
           let l = t .applets in
           let one : k + 1 ≡ suc (x .made) = omega (arith, made-of) in
           gives (step (view c) (entry (newEntry n help text)))
@@ -151,8 +138,8 @@ module _ (c : Card) (left : Left c) (n : ℕ) (help : Bool) (text : List ℕ) {t
           refl refl
           (entry-events t n (withEntry x help text (t .rows)))
           (mm ∙ ap₂ (λ (h : List ℕ) (m : ℕ). madeWith h n m) (made-form c left) one ∙ made-more l n here)
-          (rows-are x n help text (t .rows) (has-its-number t n here) pair ii (rr ∙ ap (λ (b : List ℕ). storedRow (newRow i n help b)) whole) (nx ∙ ap storedRows (put (p .position) (viewRow row))))
+          (ap (λ (h : Added). h .rows) both)
           (tu ∙ selectable-there c left n here ∙ sym (entry-menu t (sound .numbers-apart) n here help text))
           y
           ∙ ap stored (sym (entry-after c left (newEntry n help text) is-new z)))
-          (gives-number (λ h. ji ∙ ii ∙ ap (λ (q : Pair). identifierFor (q .identifier) (t .rows)) pair) says)
+          (gives-number (λ h. ii ∙ ap (λ (h : Added). h .identifier) both) says)

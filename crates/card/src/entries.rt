@@ -30,9 +30,9 @@ impl Card {
         if refusal == 0 {
             let rows = left.rows;
             let pair = applets::next_pair(grant, count);
-            identifier = rows::identifier_for(rows, pair.identifier);
-            let row = rows::row_of(identifier, applet, help, text);
-            let next = menu::inserted(rows, pair.position, row);
+            let entered = rows::entered(rows, pair, applet, help, text);
+            identifier = entered.identifier;
+            let next = entered.rows;
             let more = applets::made_with(made, applet, count + 1);
             let turns = sets::has(left.selectable, applet);
             let due = due_after(left.desk.session, left.desk.due.menu, turns);

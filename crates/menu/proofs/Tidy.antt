@@ -91,15 +91,15 @@ opens s t f =
     let e = held-count s t in
     open-start 12 blank (map storedRow (viewRows s)) (s .count) (s .at) (at-is s t) e (omega arith)
 
-pub puts : (s : Rows) (p k : ℕ) (at : List held.Row) (x : held.Row) → TidyRows s → TidyRow x → k ≡ place p (s .count) → Open 12 blank (map storedRow (viewRows s)) k at → _≡_ {A = Rows} (record { at = set at k x; count = s .count + 1 }) (storedRows (insertAt (place p (length (viewRows s))) (viewRow x) (viewRows s)))
-puts s p k at x t u e o =
+pub puts : (s : Rows) (p k : ℕ) (at : List held.Row) (x : held.Row) (new : Row) → TidyRows s → x ≡ storedRow new → k ≡ place p (s .count) → Open 12 blank (map storedRow (viewRows s)) k at → _≡_ {A = Rows} (record { at = set at k x; count = s .count + 1 }) (storedRows (insertAt (place p (length (viewRows s))) new (viewRows s)))
+puts s p k at x new t u e o =
     let l = viewRows s in
     let f : k ≡ place p (length l) = e ∙ ap (place p) (count-is s t) in
     let h : k ≤ length l = omega (arith, f, place-le p (length l)) in
     let g : k ≤ length (map storedRow l) = omega (arith, h, map-length storedRow l) in
-    let a : insertAt k x (map storedRow l) ≡ map storedRow (insertAt k (viewRow x) l) = ap (λ (y : held.Row). insertAt k y (map storedRow l)) (u .form) ∙ sym (map-insertAt storedRow k (viewRow x) l) in
-    stands (insertAt k (viewRow x) l) (open-put 12 blank (map storedRow l) k at x g o ∙ ap (padded 12 blank) a) (omega (arith, count-is s t, length-insertAt k (viewRow x) l h))
-    ∙ ap (λ (n : ℕ). storedRows (insertAt n (viewRow x) l)) f
+    let a : insertAt k x (map storedRow l) ≡ map storedRow (insertAt k new l) = ap (λ (y : held.Row). insertAt k y (map storedRow l)) u ∙ sym (map-insertAt storedRow k new l) in
+    stands (insertAt k new l) (open-put 12 blank (map storedRow l) k at x g o ∙ ap (padded 12 blank) a) (omega (arith, count-is s t, length-insertAt k new l h))
+    ∙ ap (λ (n : ℕ). storedRows (insertAt n new l)) f
 
 pub inserted-room : (p : ℕ) (x : Row) (l : List Row) → length l < 12 → withRow p x l ≡ insertAt (place p (length l)) x l
 unfolding withRow

@@ -35,7 +35,7 @@ pub fn no_rows() -> Rows
 }
 
 // The index of a requested position among n rows.
-fn place_of(position: u8, n: usize) -> usize
+pub fn place_of(position: u8, n: usize) -> usize
     ensures { λ r. ⌜ r ≡ place position n ⌝ }
 {
     if position == 0 {

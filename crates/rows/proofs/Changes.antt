@@ -2,21 +2,23 @@
 -- Assumes nothing.
 use Prim.Native.Nat.{ℕ, _≤_, _<_}
 use native.Mathlib.Omega.{arith}
-use mathlib.Core.Path.{_≡_, refl, sym, ap, _∙_}
+use mathlib.Core.Path.{_≡_, refl, sym, ap, ap₂, _∙_}
 use mathlib.Core.Bool.{Bool, true, false, not, Bool·beq, _&&_}
 use mathlib.Core.List.{List, map}
 use lib.ListN.{length, take, getD, set}
-use borrow.Author.Tests.{lt-ltb, le-ltb}
-use Rattle.lists.specs.Tests.{_==_}
+use borrow.Author.Tests.{ltb-true, ltb-false}
+use Rattle.lists.specs.Tests.{_==_, _<?_}
 use Rattle.lists.specs.Lists.{padded, some?, first, indexOf, change}
-use Rattle.lists.proofs.Search.{some-is, changed-at, change-none, length-change}
+use Rattle.lists.proofs.Search.{Sought, sought-hit, some-is, changed-at, change-none, length-change}
+use Rattle.lists.proofs.Looking.{sought-end}
+use Rattle.lists.proofs.Truth.{and-right, and-true}
 use Rattle.lists.proofs.Mapped.{map-change}
 use Rattle.rules.specs.declared.Row as held
 use Rattle.rules.specs.declared.Rows.{Rows}
 use Rattle.rules.specs.Holds.{Row}
 use Rattle.rules.specs.Held.{viewRow, storedRow, noRow, viewRows, storedRows, TidyRows}
 use Rattle.menu.specs.Table.{TidyRow}
-use Rattle.menu.proofs.Tidy.{blank, row-back, tidy-row, stands, at-is, count-is, index-viewed}
+use Rattle.menu.proofs.Tidy.{blank, long, row-back, tidy-row, stands, at-is, count-is, index-viewed}
 use Rattle.menu.proofs.Searches.{within, held-index, held-first, held-at}
 use Rattle.screen.specs.Asked.{turnsText, turnsEnabled}
 use Rattle.screen.proofs.Answers.{enabled-turns}
@@ -35,13 +37,23 @@ change-held : (n i : ℕ) (f : Row → Row) (l : List Row) → map storedRow (ch
 unfolding storedRow
 change-held n i f l = map-change storedRow (isRow n i) (λ (y : held.Row). storedRow (f (viewRow y))) f (λ r. ap (λ (z : Row). storedRow (f z)) (sym (row-back r))) l
 
-new-words : {x : held.Row} (r : Row) {help : Bool} (text : List ℕ) {bytes : List ℕ} {n : ℕ} → x ≡ storedRow r → bytes ≡ padded 15 0 text → n ≡ length text → _≡_ {A = held.Row} (record { identifier = x .identifier; owner = x .owner; help = help; enabled = x .enabled; text = bytes; len = n }) (storedRow (withWords help text r))
-unfolding storedRow
-new-words r text p e f = rw (p, e, f) refl
-
 new-mark : {x : held.Row} (r : Row) {b : Bool} → x ≡ storedRow r → _≡_ {A = held.Row} (record { identifier = x .identifier; owner = x .owner; help = x .help; enabled = b; text = x .text; len = x .len }) (storedRow (withMark b r))
 unfolding storedRow
 new-mark r p = rw p refl
+
+pub in-array : (s : Rows) (k : ℕ) → TidyRows s → (k <? s .count) ≡ true → k < 12
+in-array s k t e = omega (arith, t .few, ltb-true k (s .count) e)
+
+-- The search for the row left at k: behind the rows, or at the row.
+module _ (s : Rows) (n i k : ℕ) (t : TidyRows s) (o : Sought (isRow n i) (s .at) (s .count) k) where
+  held-all : s .count ≤ length (s .at)
+  held-all = omega (arith, long s t, t .few)
+
+  pub at-end : s .count ≤ k → k ≡ indexOf (itsRow n i) (viewRows s)
+  at-end h = sym (sought-end (isRow n i) (s .at) (s .count) k held-all h o) ∙ its-viewed s n i
+
+  pub at-row : (d : held.Row) → k < s .count → isRow n i (getD (s .at) k d) ≡ true → k ≡ indexOf (itsRow n i) (viewRows s)
+  at-row d h e = sym (sought-hit (isRow n i) (s .at) (s .count) held-all k d h e o) ∙ its-viewed s n i
 
 -- The search for the row came to k.
 module _ (s : Rows) (n i k : ℕ) (t : TidyRows s) (is : k ≡ indexOf (itsRow n i) (viewRows s)) where
@@ -51,36 +63,28 @@ module _ (s : Rows) (n i k : ℕ) (t : TidyRows s) (is : k ≡ indexOf (itsRow n
   abbrev own : Row
   own = first (itsRow n i) noRow (viewRows s)
 
-  none-its : s .count ≤ k → some? (itsRow n i) l ≡ false
-  none-its h =
-      let f : length l ≤ indexOf (itsRow n i) l = omega (arith, is, count-is s t) in
-      some-is (itsRow n i) l ∙ le-ltb _ _ f
-
-  one-its : k < s .count → some? (itsRow n i) l ≡ true
-  one-its h =
-      let f : indexOf (itsRow n i) l < length l = omega (arith, is, count-is s t) in
-      some-is (itsRow n i) l ∙ lt-ltb _ _ f
+  its-is : (k <? s .count) ≡ some? (itsRow n i) l
+  its-is = ap₂ _<?_ is (count-is s t) ∙ sym (some-is (itsRow n i) l)
 
   -- it came to the end: there is no such row
-  module _ (h : s .count ≤ k) where
-    none-turned : (f : Row → Row) (turns : Row → Bool) → _≡_ {A = Turned} (record { rows = s; its = false; turns = false }) (turnedBy (itsRow n i) f turns l)
-    unfolding turnedBy
-    none-turned f turns = rw (none-its h, change-none (itsRow n i) f l (omega (arith, is, count-is s t)), ← t .form) refl
+  none-turned : (f : Row → Row) (turns : Row → Bool) → (k <? s .count) ≡ false → _≡_ {A = Turned} (record { rows = s; its = k <? s .count; turns = false }) (turnedBy (itsRow n i) f turns l)
+  unfolding turnedBy
+  none-turned f turns e =
+      rw (change-none (itsRow n i) f l (omega (arith, is, count-is s t, ltb-false k (s .count) e)), sym its-is ∙ e, e, ← t .form) refl
 
-    pub none-marked : (b : Bool) → _≡_ {A = Turned} (record { rows = s; its = false; turns = false }) (markedBy n i b l)
-    unfolding markedBy
-    none-marked b = none-turned (withMark b) (turnsEnabled b)
+  pub none-marked : (b : Bool) → (k <? s .count) ≡ false → _≡_ {A = Turned} (record { rows = s; its = k <? s .count; turns = false }) (markedBy n i b l)
+  unfolding markedBy
+  none-marked b = none-turned (withMark b) (turnsEnabled b)
 
-    pub none-reworded : (fits help : Bool) (text : List ℕ) → _≡_ {A = Turned} (record { rows = s; its = false; turns = false }) (rewordedBy n i fits help text l)
-    unfolding rewordedBy keptBy
-    none-reworded true help text = none-turned (withWords help (take 15 text)) (turnsText help text)
-    none-reworded false help text = rw (none-its h, ← t .form) refl
+  pub none-reworded : (fits help : Bool) (text : List ℕ) → ((k <? s .count) && fits) ≡ false → _≡_ {A = Turned} (record { rows = s; its = k <? s .count; turns = false }) (rewordedBy n i fits help text l)
+  unfolding rewordedBy keptBy
+  none-reworded true help text e = none-turned (withWords help (take 15 text)) (turnsText help text) (sym (and-true (k <? s .count)) ∙ e)
+  none-reworded false help text e = rw (its-is, ← t .form) refl
 
   -- it found the row
-  module _ (h : k < s .count) where
-    pub one-kept : (fits help : Bool) (text : List ℕ) → fits ≡ false → _≡_ {A = Turned} (record { rows = s; its = true; turns = false }) (rewordedBy n i fits help text l)
-    unfolding rewordedBy keptBy
-    one-kept fits help text e = rw (e, one-its h, ← t .form) refl
+  module _ (e : (k <? s .count) ≡ true) where
+    abbrev h : k < s .count
+    h = ltb-true k (s .count) e
 
     own-at : (d : held.Row) → getD (s .at) k d ≡ storedRow own
     unfolding storedRow
@@ -96,9 +100,9 @@ module _ (s : Rows) (n i k : ℕ) (t : TidyRows s) (is : k ≡ indexOf (itsRow n
         (changed-at 12 blank (isRow n i) (map storedRow l) (s .at) (at-is s t) k x g (held-index s (isRow n i) k t is h) (within s (isRow n i) k t is h) q ∙ ap (padded 12 blank) (sym (change-held n i f l)))
         c
 
-    one-turned : (f : Row → Row) (turns : Row → Bool) (x : held.Row) {b : Bool} → x ≡ storedRow (f own) → b ≡ turns own → _≡_ {A = Turned} (record { rows = record { at = set (s .at) k x; count = s .count }; its = true; turns = b }) (turnedBy (itsRow n i) f turns l)
+    one-turned : (f : Row → Row) (turns : Row → Bool) (x : held.Row) {b : Bool} → x ≡ storedRow (f own) → b ≡ turns own → _≡_ {A = Turned} (record { rows = record { at = set (s .at) k x; count = s .count }; its = k <? s .count; turns = b }) (turnedBy (itsRow n i) f turns l)
     unfolding turnedBy
-    one-turned f turns x e q = rw (changed-is f x e, one-its h, q) refl
+    one-turned f turns x g q = rw (changed-is f x g, sym its-is ∙ e, e, q) refl
 
     module _ (d : held.Row) where
       abbrev old : held.Row
@@ -107,13 +111,16 @@ module _ (s : Rows) (n i k : ℕ) (t : TidyRows s) (is : k ≡ indexOf (itsRow n
       pub old-tidy : TidyRow old
       old-tidy = rw (own-at d) (tidy-row own)
 
-      pub one-reworded : (fits help : Bool) (text bytes : List ℕ) (m : ℕ) {b : Bool} → fits ≡ true → bytes ≡ padded 15 0 (take 15 text) → m ≡ length (take 15 text) → b ≡ turnsText help text (viewRow old) → _≡_ {A = Turned} (record { rows = record { at = set (s .at) k (record { identifier = old .identifier; owner = old .owner; help = help; enabled = old .enabled; text = bytes; len = m }); count = s .count }; its = true; turns = b }) (rewordedBy n i fits help text l)
-      unfolding rewordedBy
-      one-reworded fits help text bytes m z e f q =
-          rw z
-          (one-turned (withWords help (take 15 text)) (turnsText help text) _ (new-words own (take 15 text) (own-at d) e f)
-          (q ∙ ap (turnsText help text) (ap viewRow (own-at d) ∙ row-back own)))
+      old-own : viewRow old ≡ own
+      old-own = ap viewRow (own-at d) ∙ row-back own
 
-      pub one-marked : (b : Bool) → _≡_ {A = Turned} (record { rows = record { at = set (s .at) k (record { identifier = old .identifier; owner = old .owner; help = old .help; enabled = b; text = old .text; len = old .len }); count = s .count }; its = true; turns = not (Bool·beq (old .enabled) b) }) (markedBy n i b l)
+      pub one-reworded : (fits help : Bool) (text : List ℕ) (x : held.Row) {b : Bool} → ((k <? s .count) && fits) ≡ true → x ≡ storedRow (withWords help (take 15 text) (viewRow old)) → b ≡ turnsText help text (viewRow old) → _≡_ {A = Turned} (record { rows = record { at = set (s .at) k x; count = s .count }; its = k <? s .count; turns = b }) (rewordedBy n i fits help text l)
+      unfolding rewordedBy
+      one-reworded fits help text x z g q =
+          rw (and-right (k <? s .count) fits z)
+          (one-turned (withWords help (take 15 text)) (turnsText help text) x (g ∙ ap (λ (r : Row). storedRow (withWords help (take 15 text) r)) old-own)
+          (q ∙ ap (turnsText help text) old-own))
+
+      pub one-marked : (b : Bool) → _≡_ {A = Turned} (record { rows = record { at = set (s .at) k (record { identifier = old .identifier; owner = old .owner; help = old .help; enabled = b; text = old .text; len = old .len }); count = s .count }; its = k <? s .count; turns = not (Bool·beq (old .enabled) b) }) (markedBy n i b l)
       unfolding markedBy
       one-marked b = one-turned (withMark b) (turnsEnabled b) _ (new-mark own (own-at d)) (enabled-turns _ own (own-at d) b)

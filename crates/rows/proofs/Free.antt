@@ -20,7 +20,7 @@ use Rattle.lists.proofs.Truth.{or-false}
 use Rattle.rules.specs.declared.Row as held
 use Rattle.rules.specs.declared.Rows.{Rows}
 use Rattle.rules.specs.Holds.{Row}
-use Rattle.rules.specs.Rows.{hasIdentifier, inUse, freeFrom}
+use Rattle.rules.specs.Rows.{hasIdentifier, inUse, freeFrom, identifierFor}
 use Rattle.rules.specs.Held.{viewRow, viewRows, TidyRows}
 use Rattle.rules.proofs.Listed.{free-unused}
 use Rattle.menu.proofs.Tidy.{named, some-viewed, count-is}
@@ -100,3 +100,12 @@ free-is s t e =
     ap (λ (k : ℕ). trailingZeros 32 (2 ^ 32 - 1 - k) + 128) (e ∙ bits-alike 32 _ (λ j. inUse (128 + j) (viewRows s)) (λ j h. some-viewed s (hasIdentifier (128 + j))))
     ∙ free-bits 32 128 (viewRows s)
     ∙ sym (free-further 32 95 128 (viewRows s) (free-unused 32 128 (viewRows s) (omega (arith, count-is s t, t .few))))
+
+-- THE IDENTIFIER of a new row: where 0 is requested the free one, else the requested one
+pub free-for : {requested i : ℕ} (rows : List Row) → requested ≡ 0 → i ≡ freeFrom 127 128 rows → i ≡ identifierFor requested rows
+unfolding identifierFor
+free-for rows z e = rw z e
+
+pub own-for : {requested i : ℕ} (rows : List Row) → (requested ≡ 0 → ⊥) → i ≡ requested → i ≡ identifierFor requested rows
+unfolding identifierFor
+own-for {requested} rows z e = rw (ne-eqb requested 0 z) e

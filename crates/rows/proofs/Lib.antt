@@ -2,4 +2,5 @@
 pub mod Changes
 pub mod Its
 pub mod Free
+pub mod Entry
 pub mod Promise

@@ -1,18 +1,30 @@
--- The row of an applet with an identifier, and what the calls about it leave of the menu list.
+-- The row of an applet with an identifier, and what the calls about entries leave of the menu list.
 use Prim.Native.Nat.{ℕ}
 use mathlib.Core.Bool.{Bool, false, _&&_}
 use mathlib.Core.List.{List}
 use lib.ListN.{take}
 use Rattle.lists.specs.Tests.{if_then_else_, _==_}
 use Rattle.lists.specs.Lists.{some?, first, change}
+use Rattle.rules.specs.declared.Pair.{Pair}
 use Rattle.rules.specs.Holds.{Row}
+use Rattle.rules.specs.Rows.{identifierFor}
 use Rattle.rules.specs.Held.{noRow, storedRows}
+use Rattle.menu.specs.Table.{newRow, withRow}
 use Rattle.screen.specs.Asked.{turnsText, turnsEnabled}
+use Rattle.rows.specs.declared.Added.{Added}
 use Rattle.rows.specs.declared.Turned.{Turned}
 
 -- the row has this identifier, and is this applet's
 abbrev pub itsRow : (applet identifier : ℕ) → Row → Bool
 itsRow n i r = r .identifier == i && r .owner == n
+
+-- a new entry: the rows with its row at the requested position, unless they are full, and the row's identifier
+unfoldable pub enteredBy : Pair → (owner : ℕ) (help : Bool) (text : List ℕ) → List Row → Added
+enteredBy p owner help text rows =
+    record {
+      rows = storedRows (withRow (p .position) (newRow (identifierFor (p .identifier) rows) owner help (take 15 text)) rows);
+      identifier = identifierFor (p .identifier) rows;
+    }
 
 -- the row with another help mark and text, or another enabled mark
 abbrev pub withWords : (help : Bool) (text : List ℕ) → Row → Row

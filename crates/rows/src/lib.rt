@@ -1,5 +1,6 @@
 // What the calls about menu entries make of the menu list: the identifier and the row of a new entry, a new text, a mark.
 // A row is known by its identifier, never by its text.
+use rules::Pair;
 use rules::Row;
 use rules::Rows;
 ghost use mathlib.Core.Path.{_≡_};
@@ -7,18 +8,22 @@ ghost use mathlib.Core.Bool.{_&&_};
 ghost use Prim.Native.Nat.{_+_, _≤_};
 ghost use lib.ListN.{length, take};
 ghost use Rattle.lists.specs.Tests.{_==_};
-ghost use Rattle.lists.specs.Lists.{indexOf};
 ghost use Rattle.lists.specs.Bits.{bitsOf};
-ghost use Rattle.rules.specs.Rows.{freeFrom, identifierFor};
-ghost use Rattle.rules.specs.Held.{storedRow, viewRows, TidyRows};
+ghost use Rattle.rules.specs.Held.{viewRow, storedRow, viewRows, TidyRows};
 ghost use Rattle.menu.specs.Table.{newRow};
-ghost use Rattle.rows.specs.ItsRow.{itsRow, rewordedBy, markedBy};
+ghost use Rattle.rows.specs.ItsRow.{withWords, enteredBy, rewordedBy, markedBy};
 
 // What a call about an applet's row leaves: the rows, whether there is such a row, and whether what is shown of it turns.
 pub struct Turned {
     pub rows: Rows,
     pub its: bool,
     pub turns: bool,
+}
+
+// What a new entry leaves: the rows, and the identifier of its row.
+pub struct Added {
+    pub rows: Rows,
+    pub identifier: u8,
 }
 
 // How many bytes of a text a row holds: at most 15.
@@ -47,6 +52,21 @@ pub fn row_of(identifier: u8, owner: u8, help: bool, text: &[u8]) -> Row
     }
 }
 
+// A row with a help mark and the first 15 bytes of a text.
+fn reworded(row: Row, help: bool, text: &[u8]) -> Row
+    ensures { λ r. ⌜ r ≡ storedRow (withWords help (take 15 (now (text .entry))) (viewRow row)) ⌝ }
+{
+    let bytes = writing::held_text(text);
+    Row {
+        identifier: row.identifier,
+        owner: row.owner,
+        help,
+        enabled: row.enabled,
+        text: bytes,
+        len: text_len(text),
+    }
+}
+
 // The bit of an identifier: bit 0 for 128, bit 31 for 159, none for any other.
 fn bit_of(identifier: u8) -> u32
     ensures { λ r. ⌜ r ≡ bitsOf 32 (λ j. identifier == 128 + j) ⌝ }
@@ -61,31 +81,42 @@ fn bit_of(identifier: u8) -> u32
     0
 }
 
-// The smallest identifier of 128..255 that is not in use: twelve rows leave one of the first thirteen.
-pub fn free_identifier(rows: Rows) -> u8
+// The rows with a new entry, enabled, at its requested position, with its requested identifier, or, where that is 0, the smallest
+// of 128..255 that is not in use: twelve rows leave one of the first thirteen. A full list stays as it is.
+pub fn entered(rows: Rows, pair: Pair, owner: u8, help: bool, text: &[u8]) -> Added
     requires { ⌜ TidyRows rows ⌝ }
-    ensures { λ r. ⌜ r ≡ freeFrom 127 128 (viewRows rows) ⌝ }
+    ensures { λ r. ⌜ r ≡ enteredBy pair owner help (now (text .entry)) (viewRows rows) ⌝ }
 {
     let n = rows.count as usize;
-    let mut used: u32 = 0;
-    let mut i = 0;
-    while i < n {
-        let row = rows.at[i];
-        used = used | bit_of(row.identifier);
-        i += 1;
+    let mut at = rows.at;
+    let mut count = rows.count;
+    let mut identifier = pair.identifier;
+    if identifier == 0 {
+        let mut used: u32 = 0;
+        let mut i = 0;
+        while i < n {
+            let row = at[i];
+            used = used | bit_of(row.identifier);
+            i += 1;
+        }
+        identifier = (u32::trailing_zeros(!used) + 128) as u8;
     }
-    (u32::trailing_zeros(!used) + 128) as u8
-}
-
-// The identifier that a new row gets for a requested one: 0 asks for a free one.
-pub fn identifier_for(rows: Rows, requested: u8) -> u8
-    requires { ⌜ TidyRows rows ⌝ }
-    ensures { λ r. ⌜ r ≡ identifierFor requested (viewRows rows) ⌝ }
-{
-    if requested == 0 {
-        return free_identifier(rows);
+    if n < Rows::MOST {
+        let row = row_of(identifier, owner, help, text);
+        let k = menu::place_of(pair.position, n);
+        let mut i = n;
+        while k < i {
+            at[i] = at[i - 1];
+            i -= 1;
+        }
+        at[k] = row;
+        count = count + 1;
     }
-    requested
+    let next = Rows { at, count };
+    Added {
+        rows: next,
+        identifier,
+    }
 }
 
 // The row has this identifier and this owner.
@@ -98,46 +129,36 @@ fn is_row(row: Row, applet: u8, identifier: u8) -> bool
     false
 }
 
-// The index of the applet's row with an identifier; the count where there is none.
-fn its_place(rows: Rows, applet: u8, identifier: u8) -> usize
-    requires { ⌜ TidyRows rows ⌝ }
-    ensures { λ r. ⌜ r ≡ indexOf (itsRow applet identifier) (viewRows rows) ⌝ }
-{
-    let n = rows.count as usize;
-    let mut i = 0;
-    while i < n {
-        let row = rows.at[i];
-        let is = is_row(row, applet, identifier);
-        if is {
-            return i;
-        }
-        i += 1;
-    }
-    n
-}
-
 // The applet's row with an identifier enabled, or disabled.
 pub fn enabled(rows: Rows, applet: u8, identifier: u8, on: bool) -> Turned
     requires { ⌜ TidyRows rows ⌝ }
     ensures { λ r. ⌜ r ≡ markedBy applet identifier on (viewRows rows) ⌝ }
 {
     let n = rows.count as usize;
-    let i = its_place(rows, applet, identifier);
-    let mut next = rows;
-    if n <= i {
-        return Turned {
-            rows: next,
-            its: false,
-            turns: false,
-        };
+    let mut at = rows.at;
+    let mut i = 0;
+    while i < n {
+        let row = at[i];
+        if is_row(row, applet, identifier) {
+            break;
+        }
+        i += 1;
     }
-    let mut row = next.at[i];
-    let turns = row.enabled != on;
-    row.enabled = on;
-    next.at[i] = row;
+    let its = i < n;
+    let mut turns = false;
+    if its {
+        let mut row = at[i];
+        turns = row.enabled != on;
+        row.enabled = on;
+        at[i] = row;
+    }
+    let next = Rows {
+        at,
+        count: rows.count,
+    };
     Turned {
         rows: next,
-        its: true,
+        its,
         turns,
     }
 }
@@ -155,37 +176,30 @@ pub fn changed(
     ensures { λ r. ⌜ r ≡ rewordedBy applet identifier fits help (now (text .entry)) (viewRows rows) ⌝ }
 {
     let n = rows.count as usize;
-    let i = its_place(rows, applet, identifier);
-    let mut next = rows;
-    if n <= i {
-        return Turned {
-            rows: next,
-            its: false,
-            turns: false,
-        };
+    let mut at = rows.at;
+    let mut i = 0;
+    while i < n {
+        let row = at[i];
+        if is_row(row, applet, identifier) {
+            break;
+        }
+        i += 1;
     }
-    if !fits {
-        return Turned {
-            rows: next,
-            its: true,
-            turns: false,
-        };
+    let its = i < n;
+    let mut turns = false;
+    if its & fits {
+        let old = at[i];
+        turns = screen::turns_text(old, help, text);
+        let row = reworded(old, help, text);
+        at[i] = row;
     }
-    let old = next.at[i];
-    let turns = screen::turns_text(old, help, text);
-    let bytes = writing::held_text(text);
-    let row = Row {
-        identifier: old.identifier,
-        owner: old.owner,
-        help,
-        enabled: old.enabled,
-        text: bytes,
-        len: text_len(text),
+    let next = Rows {
+        at,
+        count: rows.count,
     };
-    next.at[i] = row;
     Turned {
         rows: next,
-        its: true,
+        its,
         turns,
     }
 }

@@ -73,7 +73,7 @@ returns c =
     let b = c .before .before in
     let a = b .before .before .before .before in
     let i : b .loop .i ≡ b .before .before .place-of .result = omega arith in
-    puts (a .args .rows) (a .args .position) _ _ (a .args .row) (a .pre .0) (a .pre .2) (b .before .before .place-of .ensures) (subst (λ (k : ℕ). Open 12 blank (map storedRow (viewRows (a .args .rows))) k (b .loop .at)) i (b .loop .inv .2))
+    puts (a .args .rows) (a .args .position) _ _ (a .args .row) _ (a .pre .0) (a .pre .2 .form) (b .before .before .place-of .ensures) (subst (λ (k : ℕ). Open 12 blank (map storedRow (viewRows (a .args .rows))) k (b .loop .at)) i (b .loop .inv .2))
 
 pub shifted-spec : {M : Type 1} → statement M
 shifted-spec =

@@ -1,48 +1,100 @@
 -- `rows::enabled` meets its contract: where the applet has the row, it has the mark; else nothing changes.
+-- The invariant: none of the first i rows is it.
 -- Assumes nothing.
-use Rattle.rows.proofs.Changes.{none-marked, one-marked}
+use Prim.Native.Nat.{_-_}
+use mathlib.Core.Path.{_≡_, sym, _∙_}
+use mathlib.Core.Logic.{⊎-elim}
+use native.Mathlib.Omega.{arith}
+use Rattle.lists.specs.Lists.{indexOf}
+use Rattle.lists.proofs.Search.{Sought, sought-none, sought-more}
+use Rattle.rules.specs.Held.{viewRows}
+use Rattle.menu.proofs.Tidy.{long}
+use Rattle.rows.specs.ItsRow.{itsRow}
+use Rattle.rows.proofs.Changes.{isRow, in-array, at-end, at-row, none-marked, one-marked}
 use borrow.Author.Needs.{needs}
 use Rattle.rows.proofs.enabled.Statement.{statement}
 use Rattle.rows.proofs.enabled.Tie as tie
 
-cast-n : tie.Need-cast-n
+abbrev Inv-loop : tie.InvT-loop
+Inv-loop rows applet identifier on n at i₀ i = Sought (isRow applet identifier) (rows .at) n i
+
+abbrev μ-loop : tie.MeasureT-loop
+μ-loop rows applet identifier on n at i₀ i = n - i
+
+cast-n : tie.Need-cast-n Inv-loop μ-loop
 cast-n c = search needs
 
-its-place-requires : tie.Need-its-place-requires
-its-place-requires c κs = search needs
+loop-holds : tie.Need-loop-holds Inv-loop μ-loop
+loop-holds c = sought-none _ _ _
 
-returns : tie.Need-returns
-returns c =
-    let p = c .before in
-    none-marked _ _ _ _ (p .before .before .pre) (p .its-place .ensures) (search needs) _
-
-mul-row : tie.Need-mul-row
+mul-row : tie.Need-mul-row Inv-loop μ-loop
 mul-row c = search needs
 
-element-copy-out-row : tie.Need-element-copy-out-row
-element-copy-out-row c = search needs
+array-copy-out-row : tie.Need-array-copy-out-row Inv-loop μ-loop
+array-copy-out-row c = search needs
 
-mul-row-2 : tie.Need-mul-row-2
+is-row-requires : tie.Need-is-row-requires Inv-loop μ-loop
+is-row-requires c κs = search needs
+
+add-i : tie.Need-add-i Inv-loop μ-loop
+add-i c = search needs
+
+loop-less : tie.Need-loop-less Inv-loop μ-loop
+loop-less c = search needs
+
+loop-again : tie.Need-loop-again Inv-loop μ-loop
+loop-again c =
+    let b = c .before .before .before .before in
+    let l = long _ (b .before .before .before .pre) in
+    sought-more _ _ _ (omega arith) _ _ (search needs) (sym (c .before .is-row .ensures) ∙ c .if1 .left) (b .loop .inv)
+
+-- where the search left
+found : (c : tie.Left-loop Inv-loop μ-loop) → c .before .loop .i ≡ indexOf (itsRow (c .before .before .before .before .args .applet) (c .before .before .before .before .args .identifier)) (viewRows (c .before .before .before .before .args .rows))
+found c =
+    let b = c .before in
+    let s = b .before .before .before in
+    ⊎-elim
+    (λ w. at-end _ _ _ _ (s .pre) (b .loop .inv) (search needs))
+    (λ w. at-row _ _ _ _ (s .pre) (b .loop .inv) _ (search needs) (sym (w .2 .ensures) ∙ w .3 .taken))
+    (c .loop-test .came)
+
+mul-row-2 : tie.Need-mul-row-2 Inv-loop μ-loop
 mul-row-2 c = search needs
 
-element-set-from-row : tie.Need-element-set-from-row
-element-set-from-row c = search needs
+array-copy-out-row-2 : tie.Need-array-copy-out-row-2 Inv-loop μ-loop
+array-copy-out-row-2 c = in-array _ _ (c .before .before .before .before .before .pre) (c .if2 .taken)
 
-returns-2 : tie.Need-returns-2
-returns-2 c =
-    let e = c .before .before in
-    let p = e .before in
-    one-marked _ _ _ _ (p .before .before .pre) (p .its-place .ensures) (search needs) _ _
+mul-at : tie.Need-mul-at Inv-loop μ-loop
+mul-at c = search needs
+
+array-set-from-at : tie.Need-array-set-from-at Inv-loop μ-loop
+array-set-from-at c = let f = c .before .before in in-array _ _ (f .before .before .before .before .before .pre) (f .if2 .taken)
+
+returns : tie.Need-returns Inv-loop μ-loop
+returns c =
+    let f = c .before .before in
+    one-marked _ _ _ _ (f .before .before .before .before .before .pre) (found (f .before)) (f .if2 .taken) _ _
+
+returns-2 : tie.Need-returns-2 Inv-loop μ-loop
+returns-2 c = none-marked _ _ _ _ (c .before .before .before .before .before .pre) (found (c .before)) _ (c .if2 .left)
 
 pub enabled-spec : {M : Type 1} → statement M
 enabled-spec =
     tie.close
     (tie.spec
+    Inv-loop
+    μ-loop
     cast-n
-    its-place-requires
-    returns
+    loop-holds
     mul-row
-    element-copy-out-row
+    array-copy-out-row
+    is-row-requires
+    add-i
+    loop-less
+    loop-again
     mul-row-2
-    element-set-from-row
+    array-copy-out-row-2
+    mul-at
+    array-set-from-at
+    returns
     returns-2)

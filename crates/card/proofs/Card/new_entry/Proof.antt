@@ -3,24 +3,10 @@
 use native.Mathlib.Omega.{arith}
 use mathlib.Core.Logic.{⊎-elim}
 use Rattle.card.proofs.Left.{tidy-rows}
-use Rattle.card.proofs.NewEntry.{row-tidy, made-few, new-refused, new-accepted}
+use Rattle.card.proofs.NewEntry.{made-few, new-refused, new-accepted}
 use borrow.Author.Needs.{needs}
 use Rattle.card.proofs.Card.new_entry.Statement.{statement}
 use Rattle.card.proofs.Card.new_entry.Tie as tie
-use Rattle.card.proofs.Card.new_entry.Reads as reads
-use Rattle.card.proofs.Card.new_entry.Lts as lts
-use Rattle.applets.proofs.grant_at.Reads as grant-at-reads
-use Rattle.applets.proofs.made_at.Reads as made-at-reads
-use Rattle.applets.proofs.made_with.Reads as made-with-reads
-use Rattle.applets.proofs.next_pair.Reads as next-pair-reads
-use Rattle.card.proofs.due_after.Reads as due-after-reads
-use Rattle.card.proofs.given_of.Reads as given-of-reads
-use Rattle.menu.proofs.inserted.Reads as inserted-reads
-use Rattle.refusals.proofs.fits.Reads as fits-reads
-use Rattle.refusals.proofs.new_refusal.Reads as new-refusal-reads
-use Rattle.rows.proofs.identifier_for.Reads as identifier-for-reads
-use Rattle.rows.proofs.row_of.Reads as row-of-reads
-use Rattle.sets.proofs.has.Reads as has-reads
 
 has-requires : tie.Need-has-requires
 has-requires c κs = search needs
@@ -40,18 +26,12 @@ new-refusal-requires c κs = search needs
 next-pair-requires : tie.Need-next-pair-requires
 next-pair-requires c κs = search needs
 
-identifier-for-requires : tie.Need-identifier-for-requires
-identifier-for-requires c κs = tidy-rows _ (c .before .before .before .before .before .before .before .before .before .before .before .pre)
-
-row-of-requires : tie.Need-row-of-requires
-row-of-requires c κs = search needs
-
-inserted-requires : tie.Need-inserted-requires
-inserted-requires c κs = (tidy-rows _ (c .before .before .before .before .before .before .before .before .before .before .before .before .before .pre), row-tidy _ (c .row-of .ensures))
+entered-requires : tie.Need-entered-requires
+entered-requires c κs = tidy-rows _ (c .before .before .before .before .before .before .before .before .before .before .before .pre)
 
 add-made-with : tie.Need-add-made-with
 add-made-with c =
-    let b = c .before .before .before .before .before in
+    let b = c .before .before .before .before in
     let r = b .before in
     let f = r .before in
     let k = f .before in
@@ -84,7 +64,7 @@ returns c =
     let s = h .before .before in
     ⊎-elim
     (λ w. new-accepted (s .args .self) (s .pre) (s .args .applet) (s .args .help) (s .args .text .now) (h .has .ensures) (g .grant-at .ensures) (k .made-at .ensures) (f .fits2 .ensures) (r .new-refusal .ensures) (w .0 .taken)
-    (c .given-of .ensures) (w .2 .ensures) (w .3 .ensures) (w .4 .ensures) (w .5 .ensures) (w .6 .ensures) (w .7 .ensures) (w .8 .ensures) (w .10) (w .11))
+    (c .given-of .ensures) (w .2 .ensures) (w .3 .ensures) (w .5 .ensures) (w .6 .ensures) (w .7 .ensures) (w .9) (w .10))
     (λ w. new-refused (s .args .self) (s .pre) (s .args .applet) (s .args .help) (s .args .text .now) (h .has .ensures) (g .grant-at .ensures) (k .made-at .ensures) (f .fits2 .ensures) (r .new-refusal .ensures)
     (j .if1 .identifier) (c .given-of .ensures) (w .0 .left) (w .1))
     (j .if1 .came)
@@ -99,9 +79,7 @@ new-entry-spec =
     fits-requires
     new-refusal-requires
     next-pair-requires
-    identifier-for-requires
-    row-of-requires
-    inserted-requires
+    entered-requires
     add-made-with
     made-with-requires
     has-requires-2
