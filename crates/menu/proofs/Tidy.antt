@@ -15,7 +15,7 @@ use Rattle.lists.proofs.Mapped.{map-length, map-indexOf, map-keep, map-some, ma
 use Rattle.rules.specs.declared.Row as held
 use Rattle.rules.specs.declared.Rows.{Rows}
 use Rattle.rules.specs.Holds.{Row}
-use Rattle.rules.specs.Rows.{hasIdentifier, place, withoutRows}
+use Rattle.rules.specs.Rows.{place, withoutRows}
 use Rattle.rules.specs.Held.{viewRow, storedRow, noRow, viewRows, storedRows, TidyRows}
 use Rattle.rules.proofs.Listed.{place-le}
 use Rattle.rules.proofs.Held.{rows-back}
@@ -63,7 +63,7 @@ long s t =
     let h : length (map storedRow (viewRows s)) ≤ 12 = omega (arith, held-count s t, t .few) in
     ap length (at-is s t) ∙ length-padded 12 blank (map storedRow (viewRows s)) h
 
-pub held-is : (s : Rows) → TidyRows s → take (s .count) (s .at) ≡ map storedRow (viewRows s)
+held-is : (s : Rows) → TidyRows s → take (s .count) (s .at) ≡ map storedRow (viewRows s)
 held-is s t =
     ap (take (s .count)) (at-is s t)
     ∙ ap (λ (n : ℕ). take n (padded 12 blank (map storedRow (viewRows s)))) (held-count s t)
@@ -80,10 +80,6 @@ some-viewed s p = map-some viewRow p (take (s .count) (s .at))
 
 abbrev pub named : (identifier : ℕ) → held.Row → Bool
 named i x = x .identifier == i
-
-pub named-viewed : (s : Rows) (i : ℕ) → indexOf (named i) (take (s .count) (s .at)) ≡ indexOf (hasIdentifier i) (viewRows s)
-unfolding viewRow
-named-viewed s i = index-viewed s (hasIdentifier i)
 
 -- An insertion: the array opens from the end to the place, and the new row is put there.
 pub opens : (s : Rows) → TidyRows s → s .count < 12 → Open 12 blank (map storedRow (viewRows s)) (s .count) (s .at)

@@ -1,13 +1,12 @@
 // The menu list, by value: at most 12 rows. Insertion shifts and deletion closes up, and both hand back the new list.
-// A row is known by its identifier, never by its text.
 use rules::Row;
 use rules::Rows;
 ghost use mathlib.Core.Path.{_≡_};
 ghost use mathlib.Core.List.{[]};
 ghost use Prim.Native.Nat.{_<_};
 ghost use lib.ListN.{length};
-ghost use Rattle.lists.specs.Lists.{insertAt, indexOf};
-ghost use Rattle.rules.specs.Rows.{hasIdentifier, place, withoutRows};
+ghost use Rattle.lists.specs.Lists.{insertAt};
+ghost use Rattle.rules.specs.Rows.{place, withoutRows};
 ghost use Rattle.rules.specs.Held.{viewRow, storedRow, noRow, viewRows, storedRows, TidyRows};
 ghost use Rattle.menu.specs.Table.{withRow, TidyRow};
 
@@ -97,21 +96,4 @@ pub fn without(rows: Rows, applet: u8) -> Rows
         i += 1;
     }
     Rows { at, count: k as u8 }
-}
-
-// The index of the row with an identifier; the count where there is none.
-pub fn find(rows: Rows, identifier: u8) -> usize
-    requires { ⌜ TidyRows rows ⌝ }
-    ensures { λ r. ⌜ r ≡ indexOf (hasIdentifier identifier) (viewRows rows) ⌝ }
-{
-    let n = rows.count as usize;
-    let mut i = 0;
-    while i < n {
-        let row = rows.at[i];
-        if row.identifier == identifier {
-            return i;
-        }
-        i += 1;
-    }
-    n
 }
