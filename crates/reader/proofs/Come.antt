@@ -3,7 +3,7 @@
 use Prim.Native.Nat.{ℕ, _+_, _-_, _≤_, _<_}
 use native.Mathlib.Omega.{arith}
 use mathlib.Core.Path.{_≡_, refl, sym, ap, subst, _∙_}
-use mathlib.Core.Bool.{Bool, true, false, _||_}
+use mathlib.Core.Bool.{Bool, true, false, _&&_, _||_}
 use mathlib.Core.List.{List, [], _∷_, _++_, map, append-assoc, append-nil}
 use lib.ListN.{length, take, drop, getD, set, replicate, length-append, length-drop, length-set, length-replicate, getD-replicate}
 use lib.Seq.{append-snoc, length-take-le, getD-set-same, getD-set-other, getD-drop}
@@ -13,7 +13,7 @@ use Rattle.lists.specs.Lists.{every?, in?, some?, repeats?, gather, padded}
 use Rattle.lists.proofs.Padded.{push}
 use Rattle.lists.proofs.Mapped.{map-append, map-length}
 use Rattle.lists.proofs.Firsts.{some-append}
-use Rattle.lists.proofs.Truth.{or-false, or-true}
+use Rattle.lists.proofs.Truth.{and-left, and-right, or-false, or-true}
 use Rattle.lists.proofs.Decided.{clashing}
 use Rattle.rules.specs.declared.Item as held
 use Rattle.rules.specs.Holds.{document}
@@ -21,7 +21,7 @@ use Rattle.rules.specs.Bytes.{byte}
 use Rattle.rules.specs.Commands.{Item, itemBytes, properItem}
 use Rattle.rules.specs.Held.{storedItem}
 use Rattle.reader.specs.Reads.{noItem, identifiers, itemAt, Stay, TextAt, ItemsRead}
-use Rattle.reader.proofs.Lists.{part-held, each-more, each-of, fresh-more, twice}
+use Rattle.reader.proofs.Lists.{part-held, every-two, fresh-more, twice}
 use Rattle.reader.proofs.Items.{item-same}
 
 -- items with the bytes from `from` on begin with those done, and the others stand from `next` on
@@ -72,7 +72,11 @@ module _ {s : List ℕ} {from : ℕ} {at : List held.Item} {seen : List Bool} {n
 
   module _ {len : ℕ} (o : TextAt s next len) where
     pub come-end : len ≡ 0 → ItemsRead s from (record { at = at; count = k; end = next })
-    come-end z = come-stop (λ x l t e. o .none z x (gather itemBytes l) (each-of (properItem document) (c .done) x l (t .each)) e)
+    unfolding every?
+    come-end z =
+        come-stop (λ x l t e.
+        let p : (every? (properItem document) (c .done) && (properItem document x && every? (properItem document) l)) ≡ true = sym (every-two (properItem document) (c .done) (x ∷ l)) ∙ t .each in
+        o .none z x (gather itemBytes l) (and-left (properItem document x) _ (and-right (every? (properItem document) (c .done)) _ p)) e)
 
     -- the identifier there
     identifier-is : (x : Item) (l : List ℕ) → itemBytes x ++ l ≡ drop next s → byte s (next + 2) ≡ x .identifier
@@ -95,11 +99,11 @@ module _ {s : List ℕ} {from : ℕ} {at : List held.Item} {seen : List Bool} {n
       missing = sym (c .marks (byte s (next + 2)) small) ∙ missed
 
       more-stay : Stay (c .done ++ (new ∷ []))
-      unfolding itemAt
+      unfolding itemAt every?
       more-stay =
           record {
             few = omega (arith, length-append (c .done) (new ∷ []), c .many);
-            each = each-more (properItem document) (c .done) new (c .stay .each) (o .some some .1);
+            each = every-two (properItem document) (c .done) (new ∷ []) ∙ rw (c .stay .each, o .some some .1) refl;
             apart = ap (λ (l : List ℕ). repeats? l []) (map-append (λ (x : Item). x .identifier) (c .done) (new ∷ [])) ∙ fresh-more (identifiers (c .done)) (byte s (next + 2)) (c .stay .apart) missing;
           }
 

@@ -9,33 +9,21 @@ use lib.ListN.{length, take, length-take}
 use lib.Seq.{take-all}
 use Rattle.lists.specs.Tests.{_==_}
 use Rattle.lists.specs.Lists.{every?, some?, in?, repeats?}
-use Rattle.lists.proofs.Truth.{and-left, and-right, or-false, or-true}
+use Rattle.lists.proofs.Truth.{and-assoc, or-false, or-true}
 use Rattle.lists.proofs.Decided.{neither, clashing, turned}
 use Rattle.lists.proofs.Firsts.{some-append}
 
--- a part from a to a + n is no longer than n, and is held whole where it fits
-pub part-most : (a n most : ℕ) (l : List ℕ) → n ≤ most → length (take (a + n - a) l) ≤ most
-part-most a n most l h = omega (arith, length-take (a + n - a) l)
-
+-- a part from a to a + n is held whole where it fits
 pub part-held : (a n most : ℕ) (l : List ℕ) → n ≤ most → take most (take (a + n - a) l) ≡ take n l
 part-held a n most l h =
     let e : a + n - a ≡ n = omega arith in
-    take-all most (take (a + n - a) l) (part-most a n most l h) ∙ ap (λ (k : ℕ). take k l) e
+    take-all most (take (a + n - a) l) (omega (arith, length-take (a + n - a) l)) ∙ ap (λ (k : ℕ). take k l) e
 
-module _ {A : Type 0} where
-  pub each-more : (p : A → Bool) (l : List A) (x : A) → every? p l ≡ true → p x ≡ true → every? p (l ++ (x ∷ [])) ≡ true
-  unfolding every?
-  each-more p [] x e f = rw f refl
-  each-more p (y ∷ l) x e f = go (p y) e (each-more p l x)
-    where
-      go : (b : Bool) → (b && every? p l) ≡ true → (every? p l ≡ true → p x ≡ true → every? p (l ++ (x ∷ [])) ≡ true) → (b && every? p (l ++ (x ∷ []))) ≡ true
-      go true e r = r e f
-      go false e r = e
-
-  pub each-of : (p : A → Bool) (l : List A) (x : A) (k : List A) → every? p (l ++ (x ∷ k)) ≡ true → p x ≡ true
-  unfolding every?
-  each-of p [] x k e = and-left (p x) (every? p k) e
-  each-of p (y ∷ l) x k e = each-of p l x k (and-right (p y) (every? p (l ++ (x ∷ k))) e)
+-- each of two lists passes
+pub every-two : {A : Type 0} (p : A → Bool) (l k : List A) → every? p (l ++ k) ≡ (every? p l && every? p k)
+unfolding every?
+every-two p [] k = refl
+every-two p (x ∷ l) k = rw (every-two p l k) (sym (and-assoc (p x) (every? p l) (every? p k)))
 
 -- a number that is not there, at the end
 pub fresh-more : (l : List ℕ) (n : ℕ) → repeats? l [] ≡ false → in? n l ≡ false → repeats? (l ++ (n ∷ [])) [] ≡ false
