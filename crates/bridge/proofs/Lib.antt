@@ -1,6 +1,7 @@
--- Demand 1 in one place; no second answer; the menu command of a card read back; and the sequences that the promises over all runs
--- speak of are those of the card's calls.
+-- Demand 1 in one place; no second answer; the menu command of a card read back; the sequences that the promises over all runs
+-- speak of are those of the card's calls; and the screen is right.
 pub mod DemandOne
 pub mod OneAnswer
 pub mod SameRuns
 pub mod RoundTrip
+pub mod OnScreen

@@ -13,7 +13,8 @@ use Rattle.rules.specs.Step.{step}
 use Rattle.rules.specs.Beside.{menuReader}
 use Rattle.rules.proofs.DueMarks.{first-due}
 use Rattle.history.specs.Handed.{handed}
-use Rattle.history.proofs.Stands.{itemOf, shown-read}
+use Rattle.history.specs.OnScreen.{itemOf}
+use Rattle.history.proofs.Stands.{shown-read}
 use Rattle.history.proofs.HandOuts.{taken, handed-due}
 use Rattle.card.specs.declared.Card.{Card}
 use Rattle.card.specs.View.{view, Left}

@@ -1,19 +1,24 @@
--- The look-backs on examples, by computation: an order form with equal titles, a release, a delete, a locked one-shot.
+-- The look-backs on examples, by computation: an order form with equal titles, a release, a delete, a locked one-shot, a screen.
 -- Assumes nothing.
 use Prim.Native.Nat.{ℕ}
 use mathlib.Core.Path.{_≡_, refl}
 use mathlib.Core.Bool.{true, false}
 use mathlib.Core.List.{List, [], _∷_, map}
 use lib.IntN.{pos}
+use lib.ListN.{replicate}
 use Rattle.lists.specs.Text.{ascii}
-use Rattle.rules.specs.Holds.{Row}
-use Rattle.rules.specs.Calls.{Call, admin, event, entry, timer, settled, lock, delete, setEvent, newEntry, changeEntry, disableEntry, allocate, release}
+use Rattle.rules.specs.Holds.{Row, document}
+use Rattle.rules.specs.Commands.{Item}
+use Rattle.rules.specs.Runs.{after}
+use Rattle.rules.specs.Calls.{Call, admin, event, entry, timer, arrival, settled, proactive, systemCommand, lock, delete, setEvent, newEntry, changeEntry, disableEntry, allocate, release, profile, response}
 use Rattle.rules.proofs.Compute.{compute}
 use Rattle.rules.proofs.Cases.{plain}
 use Rattle.history.specs.Histories.{accepted}
 use Rattle.history.specs.Named.{hasOneShot, timerOwner, rowsNamed}
 use Rattle.history.specs.Named as named′
 use Rattle.history.specs.Runs.{historyOf}
+use Rattle.history.specs.Handed.{seenOf, screen, codesHanded}
+use Rattle.history.specs.Handed as handed′
 use Rattle.history.proofs.Open.{reading}
 use Rattle.history.proofs.Promises.{past}
 
@@ -37,6 +42,24 @@ orderForm =
 abbrev identifiers : List Call → List ℕ
 identifiers calls = map (λ (r : Row). r .identifier) (rowsNamed (past [] calls))
 
+-- a session on that order form: the menu is handed out; applet 1, which is registered for MT call, is locked; then the menu is handed
+-- out again, and the event list
+abbrev handOut : Call
+handOut = systemCommand (replicate 256 0)
+
+abbrev first : List Call
+first = handOut ∷ arrival (profile (1 ∷ [])) ∷ event (setEvent 1 (pos 12)) ∷ orderForm
+
+abbrev locked : List Call
+locked = admin (lock 1) ∷ handOut ∷ proactive response ∷ first
+
+abbrev again : List Call
+again = handOut ∷ proactive response ∷ handOut ∷ proactive response ∷ locked
+
+-- the identifiers on the screen
+abbrev onScreen : List Call → List ℕ
+onScreen calls = map (λ (i : Item). i .identifier) (screen [] (seenOf [] calls) .items)
+
 pub record Examples : Type 0 where
   -- six rows are named, with identifiers of their own; a delete leaves the other applet's
   pub six-rows : identifiers orderForm ≡ 133 ∷ 132 ∷ 131 ∷ 130 ∷ 129 ∷ 128 ∷ []
@@ -50,9 +73,16 @@ pub record Examples : Type 0 where
   -- a one-shot that a settled moment finds locked stays; one that it finds selectable is used up
   pub stays : hasOneShot 1 (past [] (settled ∷ admin (lock 1) ∷ event (setEvent 1 (pos 123)) ∷ orderForm)) ≡ true
   pub used-up : hasOneShot 1 (past [] (settled ∷ event (setEvent 1 (pos 123)) ∷ orderForm)) ≡ false
+  -- six items are handed out, and one code; the lock makes both due and leaves the screen; two hand-outs mend it
+  pub six-shown : onScreen first ≡ 128 ∷ 129 ∷ 130 ∷ 131 ∷ 132 ∷ 133 ∷ []
+  pub six-left : onScreen locked ≡ 128 ∷ 129 ∷ 130 ∷ 131 ∷ 132 ∷ 133 ∷ []
+  pub both-due : after document [] locked .desk .due ≡ record { menu = true; events = true }
+  pub three-shown : onScreen again ≡ 131 ∷ 132 ∷ 133 ∷ []
+  pub one-code : codesHanded (seenOf [] locked) ≡ 0x00 ∷ []
+  pub no-code : codesHanded (seenOf [] again) ≡ []
 
 pub examples : Examples
-unfolding compute accepted historyOf reading named′.isSelectable named′.isRegistered named′.usesUp named′.hasOneShot named′.ownsTimer named′.oneToEight named′.theOne named′.timerOwner named′.rowMade named′.rowsSince named′.rowsNamed
+unfolding compute accepted historyOf reading named′.isSelectable named′.isRegistered named′.usesUp named′.hasOneShot named′.ownsTimer named′.oneToEight named′.theOne named′.timerOwner named′.rowMade named′.rowsSince named′.rowsNamed handed′.seenOf handed′.handed handed′.begins handed′.handedSince handed′.lastMenu handed′.screen handed′.codesIn handed′.isEventList handed′.lastList handed′.codesHanded
 examples =
     record {
       six-rows = refl;
@@ -63,4 +93,10 @@ examples =
       not-released = refl;
       stays = refl;
       used-up = refl;
+      six-shown = refl;
+      six-left = refl;
+      both-due = refl;
+      three-shown = refl;
+      one-code = refl;
+      no-code = refl;
     }

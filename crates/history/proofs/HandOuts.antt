@@ -1,25 +1,21 @@
 -- One hand-out, and the response to it: when it is accepted, what it writes and what is due afterwards.
 -- Assumes nothing.
 use Prim.Native.Nat.{ℕ, _≤_}
-use mathlib.Core.Path.{_≡_, refl, sym, ap, _∙_}
+use mathlib.Core.Path.{_≡_, refl, ap, _∙_}
 use mathlib.Core.Bool.{Bool, true, false, not}
-use mathlib.Core.List.{List, []}
+use mathlib.Core.List.{List}
 use lib.ListN.{length}
 use lib.Seq.{take-append-seam}
 use borrow.Author.Tests.{le-ltb}
 use Rattle.lists.specs.Tests.{if_then_else_}
-use Rattle.rules.specs.declared.Due.{Due}
 use Rattle.rules.specs.Holds.{Desk, Model, nothingDue}
-use Rattle.rules.specs.Desk.{marked, withMarks, withOutstanding, menu, eventList, handedOut, dueCommand, withHandedOut}
+use Rattle.rules.specs.Desk.{withMarks, withOutstanding, menu, eventList, handedOut, dueCommand, withHandedOut}
 use Rattle.rules.specs.Calls.{Outcome, proactive, systemCommand, response}
 use Rattle.rules.specs.Refusals.{lowest, proactiveLines, lines, refusal}
 use Rattle.rules.specs.Step.{proactiveDesk, deskAfter, tablesAfter, changed, answer, front, written, outcome, step}
 use Rattle.rules.proofs.DueMarks.{marked-same, first-handed}
 use Rattle.history.specs.Handed.{seen, handed}
-
--- what a hand-out leaves due: the menu's mark is cleared, or else that of the event list
-abbrev pub leftDue : Due → Due
-leftDue due = if due .menu then record { menu = false; events = due .events } else nothingDue
+use Rattle.history.specs.OnScreen.{leftDue, command}
 
 module _ (m : Model) (buffer : List ℕ) where
   -- it is accepted if nothing is outstanding and the buffer has room
@@ -33,7 +29,7 @@ module _ (m : Model) (buffer : List ℕ) where
     hands-out = ap (λ (n : ℕ). outcome n m (systemCommand buffer)) ok
 
     -- it hands out the command that is due ..
-    pub handed-due : handed (seen (systemCommand buffer) (step m (systemCommand buffer))) ≡ dueCommand (m .tables) (m .desk)
+    pub handed-due : command m buffer ≡ dueCommand (m .tables) (m .desk)
     unfolding handed outcome answer written front
     handed-due =
         ap (λ (o : Outcome). handed (seen (systemCommand buffer) o)) hands-out

@@ -4,9 +4,7 @@ use Prim.Native.Nat.{ℕ, suc, _≤_}
 use native.Mathlib.Omega.{arith}
 use mathlib.Core.Path.{_≡_, refl, sym, ap, _∙_}
 use mathlib.Core.Bool.{Bool, true, false, _&&_}
-use mathlib.Core.List.{List, [], _∷_, map}
-use lib.ListN.{length}
-use Rattle.lists.specs.Tests.{if_then_else_}
+use mathlib.Core.List.{List, [], _∷_}
 use Rattle.lists.specs.Lists.{some?, count, keep}
 use Rattle.lists.proofs.Alike.{keep-alike}
 use Rattle.lists.proofs.Counts.{count-is, count-keep, count-missed, count-some}

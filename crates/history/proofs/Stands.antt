@@ -16,15 +16,12 @@ use Rattle.lists.proofs.Counts.{count-kept, none-counted}
 use Rattle.lists.proofs.Truth.{and-false}
 use Rattle.rules.specs.Holds.{Row, Bounds, Tables, Model, document}
 use Rattle.rules.specs.Rows.{hasIdentifier}
-use Rattle.rules.specs.Commands.{Item, Menu, selectable, shownMenu, menuOf, menuBytes, properItem, mayStand}
+use Rattle.rules.specs.Commands.{Item, selectable, shownMenu, menuOf, menuBytes, properItem, mayStand}
 use Rattle.rules.specs.Refusals.{lowest}
 use Rattle.rules.specs.Beside.{readBy, menuReader}
 use Rattle.rules.proofs.Reader.{read-back, accepts}
 use Rattle.runs.specs.Sound.{SoundRow, Sound}
-
--- an item of the command for a row
-abbrev pub itemOf : Row → Item
-itemOf r = record { identifier = r .identifier; text = r .text }
+use Rattle.history.specs.OnScreen.{itemOf}
 
 -- a row that may stand in a menu
 abbrev Proper : Row → Type 0

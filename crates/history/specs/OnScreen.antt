@@ -1,0 +1,67 @@
+-- THE SCREEN IS RIGHT: what is promised of calls as they were seen, the card that they have left, and its history.
+use Prim.Native.Nat.{ℕ, _≤_}
+use mathlib.Core.Path.{_≡_}
+use mathlib.Core.Bool.{Bool, true, false}
+use mathlib.Core.List.{List, [], map}
+use lib.ListN.{length}
+use Rattle.lists.specs.Tests.{if_then_else_}
+use Rattle.lists.specs.Lists.{some?, keep, count}
+use Rattle.rules.specs.declared.Due.{Due}
+use Rattle.rules.specs.Holds.{Row, Model, document, nothingDue}
+use Rattle.rules.specs.Commands.{Item, menuOf, eventBytes}
+use Rattle.rules.specs.Calls.{proactive, systemCommand, response}
+use Rattle.rules.specs.Step.{step}
+use Rattle.rules.specs.Beside.{menuReader}
+use Rattle.history.specs.Histories.{History}
+use Rattle.history.specs.Named.{rowsNamed, inSession, isOutstanding}
+use Rattle.history.specs.Handed.{Seen, seen, titleOf, handed, handedSince, lastMenu, screen, codesHanded, isShown, codesNamed}
+
+-- the item of a menu for a row
+abbrev pub itemOf : Row → Item
+itemOf r = record { identifier = r .identifier; text = r .text }
+
+-- The menu that the terminal was last handed since the profile (none: the empty menu) ..
+pub record MenuRight (asked : List ℕ) (l : List Seen) (m : Model) (h : History) : Type 0 where
+  -- .. can be read back ..
+  pub reads : menuReader document (lastMenu (titleOf asked) (handedSince l)) .refusal ≡ 0
+  -- .. stands under the card's title ..
+  pub title : screen (titleOf asked) l .title ≡ titleOf asked
+  -- .. its items are the enabled rows of selectable applets, each with its own identifier and text, in the menu list's order ..
+  pub in-order : screen (titleOf asked) l .items ≡ map itemOf (keep (isShown h) (m .tables .rows))
+  -- .. those of the rows that the history names, and no other: whatever is asked of an item, as many meet it ..
+  pub named : (p : Item → Bool) → count p (screen (titleOf asked) l .items) ≡ count p (map itemOf (keep (isShown h) (rowsNamed h)))
+  -- .. with the help mark exactly if one of them offers help.
+  pub help : screen (titleOf asked) l .help ≡ some? (λ (r : Row). r .help) (keep (isShown h) (rowsNamed h))
+
+-- what a hand-out leaves due: the menu's mark is cleared, or else that of the event list
+abbrev pub leftDue : Due → Due
+leftDue due = if due .menu then record { menu = false; events = due .events } else nothingDue
+
+-- what a hand-out on this card hands out
+abbrev pub command : Model → (buffer : List ℕ) → List ℕ
+command m buffer = handed (seen (systemCommand buffer) (step m (systemCommand buffer)))
+
+-- A hand-out ..
+pub record HandsOut (asked : List ℕ) (m : Model) (h : History) (buffer : List ℕ) : Type 0 where
+  -- .. hands out the menu first, if it is due: read back, it is the one that the history wants on the screen ..
+  pub menu-first : m .desk .due .menu ≡ true
+      → menuReader document (command m buffer) ≡ record { refusal = 0; menu = menuOf (titleOf asked) (keep (isShown h) (m .tables .rows)) }
+  -- .. then the event list, if that is due, with the codes that the history wants ..
+  pub then-events : m .desk .due .menu ≡ false → m .desk .due .events ≡ true → command m buffer ≡ eventBytes (codesNamed h)
+  -- .. else nothing ..
+  pub else-nothing : m .desk .due .menu ≡ false → m .desk .due .events ≡ false → command m buffer ≡ []
+  -- .. and clears its mark.
+  pub clears : step m (systemCommand buffer) .after .desk .due ≡ leftDue (m .desk .due)
+
+pub record ScreenRight (asked : List ℕ) (l : List Seen) (m : Model) (h : History) : Type 0 where
+  -- IN A SESSION, UNLESS THE MENU IS DUE, the menu on the screen is right.
+  pub menu : inSession h ≡ true → m .desk .due .menu ≡ false → MenuRight asked l m h
+  -- IN A SESSION, UNLESS THE EVENT LIST IS DUE, the codes last handed since the profile (none: no codes) are exactly those that the
+  -- history registers for a selectable applet.
+  pub codes : inSession h ≡ true → m .desk .due .events ≡ false → codesHanded l ≡ codesNamed h
+  -- AN ACCEPTED HAND-OUT mends what is due, the menu first.
+  pub hand-out : (buffer : List ℕ) → step m (systemCommand buffer) .answer .refusal ≡ 0 → HandsOut asked m h buffer
+  -- WHAT IS DUE IS AT MOST TWO HAND-OUTS AWAY: with nothing outstanding and buffers of 256 bytes, a hand-out, its response and one
+  -- hand-out more are accepted, and nothing is due.
+  pub two-are-enough : (buffer other : List ℕ) → isOutstanding h ≡ false → 256 ≤ length buffer → 256 ≤ length other
+      → step (step (step m (systemCommand buffer) .after) (proactive response) .after) (systemCommand other) .after .desk .due ≡ nothingDue
