@@ -18,4 +18,5 @@ pub mod Handing
 pub mod Shown
 pub mod HandOuts
 pub mod Screen
+pub mod OneShot
 pub mod Example

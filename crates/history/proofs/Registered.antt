@@ -41,7 +41,7 @@ nothing-marked true v y = refl
 nothing-marked false v y = refl
 
 -- The events of document 01 have places below 20, and so has what an applet keeps.
-named-below : (e : ℕ) (l : List ℤ) (v : ℤ) (f : ℕ) → named e l v ≡ Event f → f < e + length l
+pub named-below : (e : ℕ) (l : List ℤ) (v : ℤ) (f : ℕ) → named e l v ≡ Event f → f < e + length l
 unfolding named
 named-below e [] v f q = let z : _≡_ {A = ℕ} 0 1 = cc in absurd (omega arith)
 named-below e (z ∷ l) v f q = go (equal? v z) q (λ r. named-below (suc e) l v f r)
