@@ -19,4 +19,5 @@ pub mod Shown
 pub mod HandOuts
 pub mod Screen
 pub mod OneShot
+pub mod MenuOrder
 pub mod Example

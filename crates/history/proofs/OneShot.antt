@@ -5,7 +5,6 @@ use native.Mathlib.Omega.{arith}
 use mathlib.Core.Path.{_≡_, refl, ap, _∙_}
 use mathlib.Core.Bool.{Bool, true, false, _&&_, _||_}
 use mathlib.Core.List.{List, [], _∷_, _++_, map}
-use lib.ListN.{length}
 use lib.IntN.{pos}
 use Rattle.lists.specs.Tests.{if_then_else_}
 use Rattle.lists.specs.Lists.{count, times}
@@ -16,7 +15,7 @@ use Rattle.rules.specs.declared.Kind.{Kind}
 use Rattle.rules.specs.declared.Kind.the-variants.{Event, Issuer, Reserved, Unsupported}
 use Rattle.rules.specs.declared.Envelope.{Envelope}
 use Rattle.rules.specs.declared.Envelope.the-variants.{Menu, Call as CallControl, Download, Expiry, Unrecognized, Malformed}
-use Rattle.rules.specs.Events.{handlerAvailable, codes, kindOf, kindOfCode}
+use Rattle.rules.specs.Events.{handlerAvailable, codes, kindOfCode}
 use Rattle.rules.specs.Envelopes.{envelopeOf}
 use Rattle.rules.specs.Arrivals.{Arrival, event, choice, help, expiry, nothing, download, arrivalOf, settledArrival}
 use Rattle.rules.specs.Calls.{Call, admin, event as eventCall, entry, timer, arrival, settled, proactive, systemCommand, setEvent, envelope, profile}
