@@ -2,6 +2,7 @@
 -- speak of are those of the card's calls; and the screen is right.
 pub mod DemandOne
 pub mod OneAnswer
+pub mod OneMenu
 pub mod SameRuns
 pub mod RoundTrip
 pub mod OnScreen

@@ -5,12 +5,19 @@ use mathlib.Core.Bool.{Bool}
 use mathlib.Core.List.{List}
 use lib.IntN.{ℤ}
 use Rattle.rules.specs.declared.Request.{Request}
+use Rattle.rules.specs.declared.Found.{Found}
+use Rattle.rules.specs.declared.Envelope.{Envelope}
+use Rattle.rules.specs.declared.Command.{Command}
+use Rattle.rules.specs.declared.Menu.{Menu}
 use Rattle.rules.specs.Holds.{document}
+use Rattle.rules.specs.Held.{storedMenu}
+use Rattle.rules.specs.Bytes.{found, isFound, partOf}
+use Rattle.rules.specs.Envelopes.{envelopeOf, commandOf, contentOf}
 use Rattle.rules.specs.Calls.{admin, event, entry, timer, arrival, settled, proactive, systemCommand}
 use Rattle.rules.specs.Calls.{install, delete, lock, unlock, setEvent, clearEvent, askEvent, newEntry, changeEntry, enableEntry, disableEntry}
 use Rattle.rules.specs.Calls.{allocate, release, envelope, profile, send, response}
 use Rattle.rules.specs.Step.{step}
-use Rattle.rules.specs.Beside.{freshCard}
+use Rattle.rules.specs.Beside.{freshCard, menuReader}
 use Rattle.card.specs.declared.Card.{Card}
 use Rattle.card.specs.View.{view}
 use Rattle.card.specs.Reply.{changedBy, numberedBy, askedBy, arrivedBy, madeBy}
@@ -87,3 +94,27 @@ module _ (c : Card) where
 
   pub buffer-settled : (buffer : List ℕ) → Settled (λ (b : List ℕ). b ≡ step (view c) (systemCommand buffer) .buffer)
   buffer-settled buffer = one-answer _
+
+-- THE READERS: an element looked for, where it stands, its bytes, and whether there is one; the handler's content; what an envelope and
+-- a command say; the menu reader.
+module _ (bytes : List ℕ) where
+  pub locate-settled : (tag occurrence : ℕ) → Settled (λ (r : Found). r ≡ found bytes tag occurrence)
+  locate-settled tag occurrence = one-answer _
+
+  pub find-settled : (tag occurrence : ℕ) → Settled (λ (r : List ℕ). r ≡ partOf bytes (found bytes tag occurrence))
+  find-settled tag occurrence = one-answer _
+
+  pub has-settled : (tag occurrence : ℕ) → Settled (λ (r : Bool). r ≡ isFound (found bytes tag occurrence))
+  has-settled tag occurrence = one-answer _
+
+  pub content-settled : Settled (λ (r : List ℕ). r ≡ contentOf bytes)
+  content-settled = one-answer _
+
+  pub read-envelope-settled : Settled (λ (r : Envelope). r ≡ envelopeOf bytes)
+  read-envelope-settled = one-answer _
+
+  pub read-command-settled : Settled (λ (r : Command). r ≡ commandOf bytes)
+  read-command-settled = one-answer _
+
+  pub read-menu-settled : Settled (λ (r : Menu). r ≡ storedMenu (menuReader document bytes))
+  read-menu-settled = one-answer _
