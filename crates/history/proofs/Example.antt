@@ -1,19 +1,21 @@
 -- The look-backs on examples, by computation: an order form with equal titles, a release, a delete, a locked one-shot, a screen.
 -- Assumes nothing.
 use Prim.Native.Nat.{ℕ}
-use mathlib.Core.Path.{_≡_, refl}
+use mathlib.Core.Path.{_≡_, refl, ap}
 use mathlib.Core.Bool.{true, false}
 use mathlib.Core.List.{List, [], _∷_, map}
 use lib.IntN.{pos}
 use lib.ListN.{replicate}
 use Rattle.lists.specs.Text.{ascii}
+use Rattle.lists.proofs.Decided.{clashing}
 use Rattle.rules.specs.Holds.{Row, document}
 use Rattle.rules.specs.Commands.{Item}
 use Rattle.rules.specs.Runs.{after}
-use Rattle.rules.specs.Calls.{Call, admin, event, entry, timer, arrival, settled, proactive, systemCommand, lock, delete, setEvent, newEntry, changeEntry, disableEntry, allocate, release, profile, response}
+use Rattle.rules.specs.Calls.{Call, AdminCall, admin, event, entry, timer, arrival, settled, proactive, systemCommand, lock, unlock, delete, setEvent, newEntry, changeEntry, disableEntry, allocate, release, profile, response}
 use Rattle.rules.proofs.Compute.{compute}
 use Rattle.rules.proofs.Cases.{plain}
 use Rattle.history.specs.Histories.{accepted}
+use Rattle.history.specs.Deeds.{isSettled}
 use Rattle.history.specs.Named.{hasOneShot, timerOwner, rowsNamed}
 use Rattle.history.specs.Named as named′
 use Rattle.history.specs.Runs.{historyOf}
@@ -21,6 +23,7 @@ use Rattle.history.specs.Handed.{seenOf, screen, codesHanded}
 use Rattle.history.specs.Handed as handed′
 use Rattle.history.proofs.Open.{reading}
 use Rattle.history.proofs.Promises.{past}
+use Rattle.history.proofs.OneShot.{Each, FiresOnce, one-shot-fires-exactly-once}
 
 -- a new entry of applet n with a title
 abbrev titled : ℕ → List ℕ → Call
@@ -100,3 +103,14 @@ examples =
       one-code = refl;
       no-code = refl;
     }
+
+-- A one-shot that is set, locked over a settled moment, and unlocked: the next settled moment calls it, and the one after that does not.
+pub waits-while-locked : FiresOnce [] 1 (plain 1 0 1 ∷ []) (admin (unlock 1) ∷ settled ∷ admin (lock 1) ∷ []) (settled ∷ [])
+unfolding compute accepted historyOf reading named′.isSelectable Each
+waits-while-locked =
+    one-shot-fires-exactly-once [] 1 _ _ _ refl
+    ((λ ok. (refl, refl, other)), ((λ ok. (refl, refl, λ e. refl)), ((λ ok. (refl, refl, other)), tt)))
+    refl refl ((λ ok. refl), tt)
+  where
+    other : {c : AdminCall} {P : Type 0} → admin c ≡ settled → P
+    other e = clashing (ap isSettled e) refl
