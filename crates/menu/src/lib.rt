@@ -1,14 +1,10 @@
-// The menu list, by value: at most 12 rows. Insertion shifts and deletion closes up, and both hand back the new list.
+// The menu list, by value: at most 12 rows. Where a new one stands, and the list without those of an applet, closed up.
 use rules::Row;
 use rules::Rows;
 ghost use mathlib.Core.Path.{_≡_};
 ghost use mathlib.Core.List.{[]};
-ghost use Prim.Native.Nat.{_<_};
-ghost use lib.ListN.{length};
-ghost use Rattle.lists.specs.Lists.{insertAt};
 ghost use Rattle.rules.specs.Rows.{place, withoutRows};
-ghost use Rattle.rules.specs.Held.{viewRow, storedRow, noRow, viewRows, storedRows, TidyRows};
-ghost use Rattle.menu.specs.Table.{withRow, TidyRow};
+ghost use Rattle.rules.specs.Held.{storedRow, noRow, viewRows, storedRows, TidyRows};
 
 // The row that stands where there is none.
 fn no_row() -> Row
@@ -45,36 +41,6 @@ pub fn place_of(position: u8, n: usize) -> usize
         return p - 1;
     }
     n
-}
-
-// The rows with a new one at a requested position; the list is not full.
-fn shifted(rows: Rows, position: u8, row: Row) -> Rows
-    requires { ⌜ TidyRows rows × (rows .count < 12) × TidyRow row ⌝ }
-    ensures { λ r. ⌜ r ≡ storedRows (insertAt (place position (length (viewRows rows))) (viewRow row) (viewRows rows)) ⌝ }
-{
-    let n = rows.count as usize;
-    let k = place_of(position, n);
-    let mut at = rows.at;
-    let mut i = n;
-    while k < i {
-        at[i] = at[i - 1];
-        i -= 1;
-    }
-    at[k] = row;
-    let count = rows.count + 1;
-    Rows { at, count }
-}
-
-// The rows with a new one at a requested position; a full list stays as it is.
-pub fn inserted(rows: Rows, position: u8, row: Row) -> Rows
-    requires { ⌜ TidyRows rows × TidyRow row ⌝ }
-    ensures { λ r. ⌜ r ≡ storedRows (withRow position (viewRow row) (viewRows rows)) ⌝ }
-{
-    let n = rows.count as usize;
-    if n < Rows::MOST {
-        return shifted(rows, position, row);
-    }
-    rows
 }
 
 // The rows without those of an applet, closed up, in the same order.

@@ -38,7 +38,7 @@ fn text_len(text: &[u8]) -> u8
 }
 
 // The row of a new entry, enabled, with the first 15 bytes of its text.
-pub fn row_of(identifier: u8, owner: u8, help: bool, text: &[u8]) -> Row
+fn row_of(identifier: u8, owner: u8, help: bool, text: &[u8]) -> Row
     ensures { λ r. ⌜ r ≡ storedRow (newRow identifier owner help (take 15 (now (text .entry)))) ⌝ }
 {
     let bytes = writing::held_text(text);
