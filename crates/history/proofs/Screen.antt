@@ -11,7 +11,7 @@ use Rattle.lists.proofs.Counts.{count-map}
 use Rattle.lists.proofs.Times.{some-alike}
 use Rattle.rules.specs.Holds.{Row, Model, document, nothingDue}
 use Rattle.rules.specs.Commands.{Menu, shownMenu, shownEvents, menuOf, menuBytes, eventBytes}
-use Rattle.rules.specs.Calls.{Call, proactive, systemCommand, response}
+use Rattle.rules.specs.Calls.{Call, Answer, proactive, systemCommand, response}
 use Rattle.rules.specs.Step.{step}
 use Rattle.rules.specs.Beside.{ReadOutcome, menuReader}
 use Rattle.rules.specs.Runs.{after}
@@ -20,8 +20,8 @@ use Rattle.history.specs.Histories.{History}
 use Rattle.history.specs.Named.{rowsNamed, inSession, isOutstanding}
 use Rattle.history.specs.Handed.{titleOf, Seen, seenOf, handedSince, lastMenu, screen, codesIn, codesHanded, isShown, codesNamed}
 use Rattle.history.specs.OnScreen.{itemOf, leftDue, command, MenuRight, HandsOut, ScreenRight}
-use Rattle.history.proofs.Agrees.{ground}
-use Rattle.history.proofs.Answered.{passes}
+use Rattle.history.proofs.Agrees.{plain, ground}
+use Rattle.history.proofs.Answered.{passes, answers}
 use Rattle.history.proofs.Promises.{past, agree, sound, from-1-to-8, session-is-named, outstanding-is-named}
 use Rattle.history.proofs.Stands.{shown-read}
 use Rattle.history.proofs.Handing.{codes-back, right}
@@ -97,6 +97,11 @@ module _ (title : List ℕ) (calls : List Call) where
       the-due : command m buffer ≡ (if m .desk .due .menu then menuBytes (menuOf (m .desk .title) (shownMenu (m .tables))) else if m .desk .due .events then eventBytes (shownEvents (m .tables)) else [])
       the-due = handed-due m buffer (passes m (systemCommand buffer) ok) ∙ first-due (m .tables) (m .desk)
 
+  accepts : (buffer : List ℕ) → isOutstanding h ≡ false → 256 ≤ length buffer → step m (systemCommand buffer) .answer .refusal ≡ 0
+  accepts buffer idle room =
+      ap (λ (a : Answer). a .refusal) (answers m (systemCommand buffer) (taken m buffer (outstanding-is-named title calls ∙ idle) room))
+      ∙ plain m (systemCommand buffer)
+
   two-enough : (buffer other : List ℕ) → isOutstanding h ≡ false → 256 ≤ length buffer → 256 ≤ length other
       → step (step (step m (systemCommand buffer) .after) (proactive response) .after) (systemCommand other) .after .desk .due ≡ nothingDue
   two-enough buffer other idle room space =
@@ -111,4 +116,4 @@ module _ (title : List ℕ) (calls : List Call) where
       twice false = refl
 
   pub screen-is-right : ScreenRight title l m h
-  screen-is-right = record { menu = menu-right; codes = codes-right; hand-out = hands-out; two-are-enough = two-enough }
+  screen-is-right = record { menu = menu-right; codes = codes-right; hand-out = hands-out; accepts = accepts; two-are-enough = two-enough }

@@ -61,7 +61,9 @@ pub record ScreenRight (asked : List ℕ) (l : List Seen) (m : Model) (h : Histo
   pub codes : inSession h ≡ true → m .desk .due .events ≡ false → codesHanded l ≡ codesNamed h
   -- AN ACCEPTED HAND-OUT mends what is due, the menu first.
   pub hand-out : (buffer : List ℕ) → step m (systemCommand buffer) .answer .refusal ≡ 0 → HandsOut asked m h buffer
+  -- It is accepted if nothing is outstanding and the buffer has 256 bytes.
+  pub accepts : (buffer : List ℕ) → isOutstanding h ≡ false → 256 ≤ length buffer → step m (systemCommand buffer) .answer .refusal ≡ 0
   -- WHAT IS DUE IS AT MOST TWO HAND-OUTS AWAY: with nothing outstanding and buffers of 256 bytes, a hand-out, its response and one
-  -- hand-out more are accepted, and nothing is due.
+  -- hand-out more leave nothing due.
   pub two-are-enough : (buffer other : List ℕ) → isOutstanding h ≡ false → 256 ≤ length buffer → 256 ≤ length other
       → step (step (step m (systemCommand buffer) .after) (proactive response) .after) (systemCommand other) .after .desk .due ≡ nothingDue
