@@ -18,7 +18,7 @@ use Rattle.card.specs.Kinds.{Doing, is-admin, is-set, is-clear, is-change, is-e
 use Rattle.card.specs.Reply.{changedBy, numberedBy, askedBy, arrivedBy, madeBy}
 use Rattle.card.proofs.Left.{after-seen}
 use Rattle.card.proofs.OnPaper.{doing, giving, telling, naming}
-use Rattle.history.specs.Histories.{Entry, did, History, accepted}
+use Rattle.history.specs.Histories.{did, History, accepted}
 use Rattle.history.specs.Runs.{historyOf}
 use Rattle.history.specs.Handed.{Seen, seenOf}
 use Rattle.history.specs.OnScreen.{ScreenRight}

@@ -17,6 +17,7 @@ pub mod Stands
 pub mod Handing
 pub mod Shown
 pub mod HandOuts
+pub mod Sent
 pub mod Screen
 pub mod OneShot
 pub mod MenuOrder

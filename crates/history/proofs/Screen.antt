@@ -10,15 +10,16 @@ use Rattle.lists.specs.Lists.{count, keep}
 use Rattle.lists.proofs.Counts.{count-map}
 use Rattle.lists.proofs.Times.{some-alike}
 use Rattle.rules.specs.Holds.{Row, Model, document, nothingDue}
-use Rattle.rules.specs.Commands.{Menu, shownMenu, shownEvents, menuOf, menuBytes, eventBytes}
-use Rattle.rules.specs.Calls.{Call, Answer, proactive, systemCommand, response}
+use Rattle.rules.specs.Commands.{Menu, shownMenu, shownEvents, menuOf, menuBytes, eventBytes, isMenu}
+use Rattle.rules.specs.Calls.{Call, Answer, proactive, systemCommand, send, response}
+use Rattle.rules.specs.Refusals.{refusal}
 use Rattle.rules.specs.Step.{step}
 use Rattle.rules.specs.Beside.{ReadOutcome, menuReader}
 use Rattle.rules.specs.Runs.{after}
 use Rattle.rules.proofs.DueMarks.{first-due}
 use Rattle.history.specs.Histories.{History}
 use Rattle.history.specs.Named.{rowsNamed, inSession, isOutstanding}
-use Rattle.history.specs.Handed.{titleOf, Seen, seenOf, handedSince, lastMenu, screen, codesIn, codesHanded, isShown, codesNamed}
+use Rattle.history.specs.Handed.{titleOf, Seen, seenOf, handedSince, lastMenu, screen, codesIn, isEventList, codesHanded, isShown, codesNamed}
 use Rattle.history.specs.OnScreen.{itemOf, leftDue, command, MenuRight, HandsOut, ScreenRight}
 use Rattle.history.proofs.Agrees.{plain, ground}
 use Rattle.history.proofs.Answered.{passes, answers}
@@ -27,6 +28,7 @@ use Rattle.history.proofs.Stands.{shown-read}
 use Rattle.history.proofs.Handing.{codes-back, right}
 use Rattle.history.proofs.Shown.{rows-shown, rows-wanted, codes-shown}
 use Rattle.history.proofs.HandOuts.{taken, handed-due, due-left, responded}
+use Rattle.history.proofs.Sent.{sends-no-menu, sends-no-list}
 
 module _ (title : List ℕ) (calls : List Call) where
   -- the card that the calls have left, their history, and the calls as they were seen
@@ -85,6 +87,12 @@ module _ (title : List ℕ) (calls : List Call) where
   codes-right begun current =
       ap codesIn (right title calls .events (session-is-named title calls ∙ begun) current) ∙ codes-back (shownEvents (m .tables)) ∙ card-codes
 
+  sends-neither : (n : ℕ) (bytes : List ℕ) → step m (proactive (send n bytes)) .answer .refusal ≡ 0
+      → (isMenu document bytes ≡ false) × (isEventList bytes ≡ false)
+  sends-neither n bytes ok =
+      let q : refusal m (proactive (send n bytes)) ≡ 0 = passes m (proactive (send n bytes)) ok in
+      (sends-no-menu m n bytes q, sends-no-list m n bytes q)
+
   hands-out : (buffer : List ℕ) → step m (systemCommand buffer) .answer .refusal ≡ 0 → HandsOut title m h buffer
   hands-out buffer ok =
       record {
@@ -116,4 +124,4 @@ module _ (title : List ℕ) (calls : List Call) where
       twice false = refl
 
   pub screen-is-right : ScreenRight title l m h
-  screen-is-right = record { menu = menu-right; codes = codes-right; hand-out = hands-out; accepts = accepts; two-are-enough = two-enough }
+  screen-is-right = record { menu = menu-right; codes = codes-right; sent = sends-neither; hand-out = hands-out; accepts = accepts; two-are-enough = two-enough }

@@ -8,13 +8,13 @@ use Rattle.lists.specs.Tests.{if_then_else_}
 use Rattle.lists.specs.Lists.{some?, keep, count}
 use Rattle.rules.specs.declared.Due.{Due}
 use Rattle.rules.specs.Holds.{Row, Model, document, nothingDue}
-use Rattle.rules.specs.Commands.{Item, menuOf, eventBytes}
-use Rattle.rules.specs.Calls.{proactive, systemCommand, response}
+use Rattle.rules.specs.Commands.{Item, menuOf, eventBytes, isMenu}
+use Rattle.rules.specs.Calls.{proactive, systemCommand, send, response}
 use Rattle.rules.specs.Step.{step}
 use Rattle.rules.specs.Beside.{menuReader}
 use Rattle.history.specs.Histories.{History}
 use Rattle.history.specs.Named.{rowsNamed, inSession, isOutstanding}
-use Rattle.history.specs.Handed.{Seen, seen, titleOf, handed, handedSince, lastMenu, screen, codesHanded, isShown, codesNamed}
+use Rattle.history.specs.Handed.{Seen, seen, titleOf, handed, handedSince, lastMenu, screen, isEventList, codesHanded, isShown, codesNamed}
 
 -- the item of a menu for a row
 abbrev pub itemOf : Row → Item
@@ -59,6 +59,9 @@ pub record ScreenRight (asked : List ℕ) (l : List Seen) (m : Model) (h : Histo
   -- IN A SESSION, UNLESS THE EVENT LIST IS DUE, the codes last handed since the profile (none: no codes) are exactly those that the
   -- history registers for a selectable applet.
   pub codes : inSession h ≡ true → m .desk .due .events ≡ false → codesHanded l ≡ codesNamed h
+  -- NO APPLET CHANGES THEM: what an accepted send gives the terminal is neither a menu nor an event list.
+  pub sent : (n : ℕ) (bytes : List ℕ) → step m (proactive (send n bytes)) .answer .refusal ≡ 0
+      → (isMenu document bytes ≡ false) × (isEventList bytes ≡ false)
   -- AN ACCEPTED HAND-OUT mends what is due, the menu first.
   pub hand-out : (buffer : List ℕ) → step m (systemCommand buffer) .answer .refusal ≡ 0 → HandsOut asked m h buffer
   -- It is accepted if nothing is outstanding and the buffer has 256 bytes.

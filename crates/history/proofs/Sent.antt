@@ -1,0 +1,119 @@
+-- A send of a menu command, or of an event list, is refused: by its type, if its bytes are not refused before.
+-- Assumes nothing.
+use Prim.Native.Nat.{ℕ, suc, _+_, _-_}
+use native.Mathlib.Omega.{arith}
+use mathlib.Core.Path.{_≡_, refl, sym, ap, _∙_}
+use mathlib.Core.Bool.{Bool, true, false, _||_}
+use mathlib.Core.List.{List, [], _∷_, _++_}
+use lib.ListN.{length, drop}
+use lib.Dec.{eqb·suc-zero}
+use borrow.Author.Tests.{le-leb, lt-leb}
+use Rattle.lists.specs.Tests.{if_then_else_, _==_, _<?_, _≤?_}
+use Rattle.lists.specs.Lists.{Every}
+use Rattle.lists.proofs.Decided.{clashing}
+use Rattle.rules.specs.declared.Command.{Command}
+use Rattle.rules.specs.declared.Len.the-variants.{Known}
+use Rattle.rules.specs.declared.Element.{Element}
+use Rattle.rules.specs.declared.Element.the-variants.{Whole}
+use Rattle.rules.specs.declared.Byte.{Byte}
+use Rattle.rules.specs.declared.Byte.the-variants.{One}
+use Rattle.rules.specs.declared.Outer.{Outer}
+use Rattle.rules.specs.declared.Outer.the-variants.{Tlv}
+use Rattle.rules.specs.declared.Outer.the-variants as outer
+use Rattle.rules.specs.Holds.{Model, document}
+use Rattle.rules.specs.Bytes.{byte, tagSize, tagNumber, longLength, lengthAt, valued, elementBy, elementAt, grow, runBy, runAt, fills, nth, found, rest, outerBy, outerOf}
+use Rattle.rules.specs.Envelopes.{typeBy, commandBy, commandIn, commandOf, badCommand, systemType}
+use Rattle.rules.specs.Commands.{Menu, lengthBytes, commandBytes, detailBytes, menuValue, menuBytes, eventBytes, readMenu, isMenu}
+use Rattle.rules.specs.Calls.{proactive, send}
+use Rattle.rules.specs.Refusals.{proactiveLines, lines, refusal}
+use Rattle.rules.proofs.Reader.{same-true, only-written}
+use Rattle.runs.proofs.Accepted.{accepted}
+use Rattle.history.specs.Handed.{codesIn, isEventList}
+
+-- refused for what it says
+abbrev barred : Command → Bool
+barred c = badCommand c || systemType c
+
+-- a command whose value says so, behind a length of one byte or two
+behind : (v s : List ℕ) (b : ℕ) → barred (commandBy v (typeBy v (found v 0x01 1))) ≡ true → byte s 0 ≡ 0xD0 → rest s b ≡ v
+    → barred (commandIn s (outerBy s (Known (length v) b))) ≡ true
+unfolding outerBy commandIn badCommand
+behind v s b k e f = go (length s - b == length v) (fills (runAt (rest s b) 0))
+  where
+    go : (x y : Bool) → barred (commandIn s (if x then if y then Tlv (byte s 0) b else outer.Malformed else outer.Malformed)) ≡ true
+    go true true = rw (e, f) k
+    go true false = refl
+    go false y = refl
+
+short : (v : List ℕ) → (length v <? 0x80) ≡ true → outerOf (0xD0 ∷ length v ∷ v) ≡ outerBy (0xD0 ∷ length v ∷ v) (Known (length v) 2)
+unfolding outerOf lengthAt
+short v e =
+    let z : (length (0xD0 ∷ length v ∷ v) == 0) ≡ false = eqb·suc-zero (suc (length v)) in
+    let a : (length (0xD0 ∷ length v ∷ v) ≤? 1) ≡ false = lt-leb (suc (suc (length v))) 1 (omega arith) in
+    rw (z, a, e) refl
+
+long : (v : List ℕ) → (length v <? 0x80) ≡ false
+    → outerOf (0xD0 ∷ 0x81 ∷ length v ∷ v) ≡ outerBy (0xD0 ∷ 0x81 ∷ length v ∷ v) (Known (length v) 3)
+unfolding outerOf lengthAt longLength
+long v e =
+    let z : (length (0xD0 ∷ 0x81 ∷ length v ∷ v) == 0) ≡ false = eqb·suc-zero (suc (suc (length v))) in
+    let a : (length (0xD0 ∷ 0x81 ∷ length v ∷ v) ≤? 1) ≡ false = lt-leb (suc (suc (suc (length v)))) 1 (omega arith) in
+    let b : (length (0xD0 ∷ 0x81 ∷ length v ∷ v) ≤? (1 + 1)) ≡ false = lt-leb (suc (suc (suc (length v)))) 2 (omega arith) in
+    rw (z, a, b, e) refl
+
+said : (v : List ℕ) → barred (commandBy v (typeBy v (found v 0x01 1))) ≡ true → barred (commandOf (commandBytes v)) ≡ true
+unfolding commandOf commandBytes lengthBytes
+said v k = go (length v <? 0x80) refl
+  where
+    go : (b : Bool) → (length v <? 0x80) ≡ b → barred (commandOf (0xD0 ∷ (if b then length v ∷ [] else 0x81 ∷ length v ∷ []) ++ v)) ≡ true
+    go true e = ap (λ (o : Outer). barred (commandIn (0xD0 ∷ length v ∷ v) o)) (short v e) ∙ behind v (0xD0 ∷ length v ∷ v) 2 k refl refl
+    go false e = ap (λ (o : Outer). barred (commandIn (0xD0 ∷ 0x81 ∷ length v ∷ v) o)) (long v e) ∙ behind v (0xD0 ∷ 0x81 ∷ length v ∷ v) 3 k refl refl
+
+-- the details stand first in the value, and say the type
+details : (n type q : ℕ) (l : List ℕ) → elementAt (0x81 ∷ 0x03 ∷ n ∷ type ∷ q ∷ l) 0 ≡ Whole 0x01 2 3 5
+unfolding elementAt elementBy tagSize tagNumber lengthAt valued
+details n type q l =
+    let a : (length (0x81 ∷ 0x03 ∷ n ∷ type ∷ q ∷ l) ≤? 0) ≡ false = lt-leb (suc (suc (suc (suc (suc (length l)))))) 0 (omega arith) in
+    let b : (length (0x81 ∷ 0x03 ∷ n ∷ type ∷ q ∷ l) ≤? 1) ≡ false = lt-leb (suc (suc (suc (suc (suc (length l)))))) 1 (omega arith) in
+    let c : (5 ≤? length (0x81 ∷ 0x03 ∷ n ∷ type ∷ q ∷ l)) ≡ true = le-leb 5 (suc (suc (suc (suc (suc (length l)))))) (omega arith) in
+    rw (a, b, c) refl
+
+typed : (n type q : ℕ) (l : List ℕ)
+    → typeBy (0x81 ∷ 0x03 ∷ n ∷ type ∷ q ∷ l) (found (0x81 ∷ 0x03 ∷ n ∷ type ∷ q ∷ l) 0x01 1) ≡ One type
+unfolding found runAt runBy nth typeBy
+typed n type q l =
+    let v : List ℕ = 0x81 ∷ 0x03 ∷ n ∷ type ∷ q ∷ l in
+    ap (λ (e : Element). typeBy v (nth (grow e (λ next. runBy (length v) v next)) 0x01 1)) (details n type q l)
+
+menu-barred : (m : Menu) → barred (commandOf (menuBytes m)) ≡ true
+unfolding menuBytes menuValue detailBytes commandBy badCommand systemType
+menu-barred m =
+    said (menuValue m) (ap (λ (b : Byte). barred (commandBy (menuValue m) b)) (typed 0x01 0x25 (if m .help then 0x80 else 0x00) (drop 5 (menuValue m))))
+
+list-barred : (l : List ℕ) → barred (commandOf (eventBytes l)) ≡ true
+unfolding eventBytes detailBytes commandBy badCommand systemType
+list-barred l =
+    let v : List ℕ = detailBytes 0x05 0x00 ++ 0x99 ∷ length l ∷ l in
+    said v (ap (λ (b : Byte). barred (commandBy v b)) (typed 0x01 0x05 0x00 (drop 5 v)))
+
+module _ (m : Model) (n : ℕ) (bytes : List ℕ) (ok : refusal m (proactive (send n bytes)) ≡ 0) where
+  not-barred : barred (commandOf bytes) ≡ false
+  unfolding lines proactiveLines Every
+  not-barred =
+      let h = accepted m (proactive (send n bytes)) ok in
+      ap (λ (b : Bool). b || systemType (commandOf bytes)) (h .0) ∙ h .1 .1 .1 .1 .0
+
+  pub sends-no-menu : isMenu document bytes ≡ false
+  sends-no-menu = go (isMenu document bytes) refl
+    where
+      go : (b : Bool) → isMenu document bytes ≡ b → b ≡ false
+      go true e = clashing (ap (λ (s : List ℕ). barred (commandOf s)) (sym (only-written document bytes e .1)) ∙ menu-barred (readMenu document bytes)) not-barred
+      go false e = refl
+
+  pub sends-no-list : isEventList bytes ≡ false
+  unfolding isEventList
+  sends-no-list = go (isEventList bytes) refl
+    where
+      go : (b : Bool) → isEventList bytes ≡ b → b ≡ false
+      go true e = clashing (ap (λ (s : List ℕ). barred (commandOf s)) (sym (same-true (eventBytes (codesIn bytes)) bytes e)) ∙ list-barred (codesIn bytes)) not-barred
+      go false e = refl
