@@ -1,4 +1,4 @@
--- What is asked for, known by its case; and what the bytes of a call say.
+-- What a test says of what is asked for, by its case; and what the bytes of a call say.
 -- Assumes nothing.
 use Prim.Native.Nat.{ℕ, zero, suc, _+_, _-_, _≤_, _<_}
 use native.Mathlib.Omega.{arith}
@@ -12,15 +12,10 @@ use mir.ValLaws.{toZ-pos}
 use Rattle.rules.specs.declared.Pair.{Pair}
 use Rattle.rules.specs.Bytes.{byte}
 use Rattle.rules.specs.Floor.{requestOf}
-use Rattle.asks.specs.declared.Ask.{Ask}
-use Rattle.asks.specs.Asks.{callOf}
 
 -- what a test says, by the case
 pub fit-as : {A : Type 0} (f : A → List ℕ → Bool) (b : List ℕ) {a k : A} {r : Bool} → a ≡ k → r ≡ f k b → r ≡ f a b
 fit-as {A} f b e r = r ∙ ap (λ (x : A). f x b) (sym e)
-
-pub call-as : (n : ℕ) (b out : List ℕ) {a k : Ask} → a ≡ k → callOf a n b out ≡ callOf k n b out
-call-as n b out e = ap (λ (x : Ask). callOf x n b out) e
 
 -- two bytes as a signed number, below 0
 minus-one : (m : ℕ) → negsuc 0 -ℤ pos m ≡ negsuc m
