@@ -63,7 +63,7 @@ long s t =
     let h : length (map storedRow (viewRows s)) ≤ 12 = omega (arith, held-count s t, t .few) in
     ap length (at-is s t) ∙ length-padded 12 blank (map storedRow (viewRows s)) h
 
-held-is : (s : Rows) → TidyRows s → take (s .count) (s .at) ≡ map storedRow (viewRows s)
+pub held-is : (s : Rows) → TidyRows s → take (s .count) (s .at) ≡ map storedRow (viewRows s)
 held-is s t =
     ap (take (s .count)) (at-is s t)
     ∙ ap (λ (n : ℕ). take n (padded 12 blank (map storedRow (viewRows s)))) (held-count s t)
