@@ -39,6 +39,15 @@ refuses m c n e = go (refusal m c) e
     go zero q = absurd (omega (arith, plain m c))
     go (suc k) q = q
 
+-- the number in the answer is the rules'
+pub gives : (m : Model) (c : Call) → step m c .answer .refusal ≡ refusal m c
+unfolding step outcome
+gives m c = go (refusal m c)
+  where
+    go : (k : ℕ) → outcome k m c .answer .refusal ≡ k
+    go zero = plain m c
+    go (suc k) = refl
+
 -- nothing that arrives calls nobody
 kept-none : (l : List Applet) → keep (λ (x : Applet). x .selectable && false) l ≡ []
 unfolding keep

@@ -19,6 +19,7 @@ pub mod Shown
 pub mod HandOuts
 pub mod Sent
 pub mod Screen
+pub mod DoneAlready
 pub mod OneShot
 pub mod MenuOrder
 pub mod Example
