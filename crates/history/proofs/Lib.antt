@@ -20,6 +20,7 @@ pub mod HandOuts
 pub mod Sent
 pub mod Screen
 pub mod DoneAlready
+pub mod LockUnseen
 pub mod OneShot
 pub mod MenuOrder
 pub mod Example
