@@ -19,7 +19,7 @@ use Rattle.history.proofs.Open.{reading}
 use Rattle.history.proofs.Agree.{AgreeDesk}
 
 -- the due marks leave the session and what is outstanding
-marks-leave : {B : Type 0} (g : Desk → B) → ((d : Desk) (x : Due) → g (withMarks d (d .outstanding) x) ≡ g d)
+pub marks-leave : {B : Type 0} (g : Desk → B) → ((d : Desk) (x : Due) → g (withMarks d (d .outstanding) x) ≡ g d)
     → (before after : Tables) (d : Desk) → g (marked before after d) ≡ g d
 unfolding marked
 marks-leave g k before after d = go (d .session)

@@ -21,6 +21,7 @@ pub mod Sent
 pub mod Screen
 pub mod DoneAlready
 pub mod LockUnseen
+pub mod DeskNamed
 pub mod OneShot
 pub mod MenuOrder
 pub mod Example

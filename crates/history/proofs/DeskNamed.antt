@@ -1,0 +1,160 @@
+-- THE DESK over any calls: the title is the one given when the card was made, the profile is the last accepted one's first 32 bytes; and
+-- what handing out does. Assumes nothing.
+use Prim.Native.Nat.{ℕ, zero, suc, _≤_, _<_}
+use native.Mathlib.Omega.{arith}
+use mathlib.Core.Path.{_≡_, refl, sym, ap, ap₂, _∙_}
+use mathlib.Core.Bool.{Bool, true, false}
+use mathlib.Core.List.{List, [], _∷_, _++_}
+use lib.ListN.{length, take, drop, replicate}
+use borrow.Author.Tests.{lt-ltb, ltb-true}
+use Rattle.lists.specs.Tests.{if_then_else_, _<?_}
+use Rattle.lists.specs.Lists.{keep, padded}
+use Rattle.rules.specs.Holds.{Bounds, Desk, Model, document, fresh}
+use Rattle.rules.specs.Commands.{shownMenu, shownEvents, menuOf, menuBytes, eventBytes}
+use Rattle.rules.specs.Desk.{Matter, marked, withMarks, withProfile, handedOut, dueMatters, dueCommand, withFirst, withHandedOut}
+use Rattle.rules.specs.Calls.{Call, Outcome, numbered, admin, event, entry, timer, arrival, settled, proactive, systemCommand, envelope, profile, send, response}
+use Rattle.rules.specs.Refusals.{lowest, refusal}
+use Rattle.rules.specs.Step.{arrivalDesk, proactiveDesk, deskAfter, tablesAfter, changed, answer, written, front, outcome, step}
+use Rattle.rules.specs.Beside.{freshBy, freshCard}
+use Rattle.rules.specs.Runs.{after}
+use Rattle.rules.proofs.DueMarks.{marked-same, first-due, first-handed}
+use Rattle.history.specs.Histories.{History, did, accepted}
+use Rattle.history.specs.Deeds.{profiles}
+use Rattle.history.specs.Runs.{historyOf}
+use Rattle.history.proofs.Open.{reading}
+use Rattle.history.proofs.Agrees.{accepted-more, accepted-same, plain}
+use Rattle.history.proofs.Answered.{passes}
+use Rattle.history.proofs.DeskKept.{marks-leave}
+use Rattle.history.proofs.Promises.{m, past}
+
+-- A FRESH CARD has the title that is asked for ..
+pub fresh-with-its-title : (b : Bounds) (title : List ℕ) → length title ≤ b .title → freshCard b title ≡ record { refusal = 0; card = fresh b title }
+unfolding freshCard freshBy lowest
+fresh-with-its-title b title h = rw (within (b .title <? length title) refl) refl
+  where
+    within : (c : Bool) → (b .title <? length title) ≡ c → c ≡ false
+    within true e = absurd (omega (arith, ltb-true (b .title) (length title) e))
+    within false e = refl
+
+-- .. and with a title too long it is refused with 12, and is a fresh card with an empty title.
+pub fresh-refused-is-fresh : (b : Bounds) (title : List ℕ) → b .title < length title → freshCard b title ≡ record { refusal = 12; card = fresh b [] }
+unfolding freshCard freshBy lowest
+fresh-refused-is-fresh b title h = rw (lt-ltb (b .title) (length title) h) refl
+
+-- No call changes the title.
+title-after : (x : Model) (c : Call) → deskAfter x c .title ≡ x .desk .title
+unfolding deskAfter arrivalDesk proactiveDesk withProfile withHandedOut withFirst
+title-after x (admin c) = refl
+title-after x (event c) = refl
+title-after x (entry c) = refl
+title-after x (timer c) = refl
+title-after x (arrival (envelope bytes)) = refl
+title-after x (arrival (profile bytes)) = refl
+title-after x settled = refl
+title-after x (proactive (send n bytes)) = refl
+title-after x (proactive response) = refl
+title-after x (systemCommand buffer) = go (dueMatters (x .desk .due))
+  where
+    go : (l : List Matter) → withFirst (x .desk) l .title ≡ x .desk .title
+    go [] = refl
+    go (y ∷ l) = refl
+
+title-kept : (x : Model) (c : Call) → step x c .after .desk .title ≡ x .desk .title
+unfolding step outcome changed
+title-kept x c = go (refusal x c)
+  where
+    go : (k : ℕ) → outcome k x c .after .desk .title ≡ x .desk .title
+    go zero = marks-leave (λ d. d .title) (λ d y. refl) (x .tables) (tablesAfter (x .tables) c) (deskAfter x c) ∙ title-after x c
+    go (suc k) = refl
+
+-- THE TITLE is the one that the card was made with, after any calls.
+pub title-is-the-one-given : (title : List ℕ) (calls : List Call) → m title calls .desk .title ≡ freshCard document title .card .desk .title
+unfolding after
+title-is-the-one-given title [] = refl
+title-is-the-one-given title (c ∷ calls) = title-kept (m title calls) c ∙ title-is-the-one-given title calls
+
+-- The bytes of a profile, and what a history names: the first 32 bytes of the last accepted profile with zeros behind; zeros before any.
+unfoldable pub profileBytes : Call → List ℕ
+profileBytes (admin c) = []
+profileBytes (event c) = []
+profileBytes (entry c) = []
+profileBytes (timer c) = []
+profileBytes (arrival (envelope bytes)) = []
+profileBytes (arrival (profile bytes)) = bytes
+profileBytes settled = []
+profileBytes (proactive c) = []
+profileBytes (systemCommand buffer) = []
+
+unfoldable pub profileNamed : History → List ℕ
+profileNamed [] = replicate 32 0
+profileNamed (e ∷ h) = if profiles e then padded 32 0 (take 32 (profileBytes (e .call))) else profileNamed h
+
+profile-after : (x : Model) (h : History) (c : Call) → x .desk .profile ≡ profileNamed h → deskAfter x c .profile ≡ profileNamed (did c (answer x c) ∷ h)
+unfolding deskAfter arrivalDesk proactiveDesk withProfile withHandedOut withFirst profileNamed profileBytes reading
+profile-after x h (admin c) e = e
+profile-after x h (event c) e = e
+profile-after x h (entry c) e = e
+profile-after x h (timer c) e = e
+profile-after x h (arrival (envelope bytes)) e = e
+profile-after x h (arrival (profile bytes)) e = refl
+profile-after x h settled e = e
+profile-after x h (proactive (send n bytes)) e = e
+profile-after x h (proactive response) e = e
+profile-after x h (systemCommand buffer) e = go (dueMatters (x .desk .due)) ∙ e
+  where
+    go : (l : List Matter) → withFirst (x .desk) l .profile ≡ x .desk .profile
+    go [] = refl
+    go (y ∷ l) = refl
+
+profile-call : (x : Model) (h : History) (c : Call) (k : ℕ) → x .desk .profile ≡ profileNamed (accepted h)
+    → outcome k x c .after .desk .profile ≡ profileNamed (accepted (did c (outcome k x c .answer) ∷ h))
+unfolding outcome changed
+profile-call x h c zero e =
+    marks-leave (λ d. d .profile) (λ d y. refl) (x .tables) (tablesAfter (x .tables) c) (deskAfter x c)
+    ∙ profile-after x (accepted h) c e
+    ∙ sym (ap profileNamed (accepted-more c (answer x c) h (plain x c)))
+profile-call x h c (suc k) e = e ∙ sym (ap profileNamed (accepted-same c k h))
+
+profile-fresh : (k : ℕ) (title : List ℕ) → freshBy k document title .card .desk .profile ≡ replicate 32 0
+unfolding freshBy
+profile-fresh zero title = refl
+profile-fresh (suc k) title = refl
+
+-- THE PROFILE is the last accepted one's first 32 bytes, with zeros behind, after any calls.
+pub profile-is-the-last-one : (title : List ℕ) (calls : List Call) → m title calls .desk .profile ≡ profileNamed (past title calls)
+unfolding after historyOf step freshCard accepted keep profileNamed
+profile-is-the-last-one title [] = profile-fresh _ title
+profile-is-the-last-one title (c ∷ calls) = profile-call (m title calls) (historyOf title calls) c _ (profile-is-the-last-one title calls)
+
+-- HANDING OUT, on any card: an accepted system command.
+module _ (x : Model) (buffer : List ℕ) (ok : step x (systemCommand buffer) .answer .refusal ≡ 0) where
+  -- these bytes at the front of the buffer with the rest of it left, their length as the answer, and the desk afterwards
+  abbrev pub handing : (bytes : List ℕ) → Desk → Outcome
+  handing bytes d = record { after = record { tables = x .tables; desk = d }; answer = numbered (length bytes); buffer = bytes ++ drop (length bytes) buffer }
+
+  hands : (bytes : List ℕ) (d : Desk) → dueCommand (x .tables) (x .desk) ≡ bytes → withHandedOut (x .desk) ≡ d → step x (systemCommand buffer) ≡ handing bytes d
+  unfolding step outcome changed tablesAfter deskAfter answer written front
+  hands bytes d p q =
+      ap (λ (k : ℕ). outcome k x (systemCommand buffer)) (passes x (systemCommand buffer) ok)
+      ∙ ap₂ (λ (s : List ℕ) (e : Desk). handing s (marked (x .tables) (x .tables) e)) p q
+      ∙ ap (handing bytes) (marked-same (x .tables) d)
+
+  -- the menu first: its command is written, its mark cleared, the other left, and a command is outstanding ..
+  pub hands-out-the-menu : x .desk .due .menu ≡ true
+      → step x (systemCommand buffer) ≡ handing (menuBytes (menuOf (x .desk .title) (shownMenu (x .tables)))) (withMarks (x .desk) true (record { menu = false; events = x .desk .due .events }))
+  unfolding handedOut
+  hands-out-the-menu e =
+      hands (menuBytes (menuOf (x .desk .title) (shownMenu (x .tables)))) (withMarks (x .desk) true (record { menu = false; events = x .desk .due .events }))
+      (first-due (x .tables) (x .desk) ∙ rw e refl) (first-handed (x .desk) ∙ rw e refl)
+
+  -- .. then the event list ..
+  pub hands-out-the-event-list : x .desk .due .menu ≡ false → x .desk .due .events ≡ true
+      → step x (systemCommand buffer) ≡ handing (eventBytes (shownEvents (x .tables))) (withMarks (x .desk) true (record { menu = false; events = false }))
+  unfolding handedOut
+  hands-out-the-event-list e f =
+      hands (eventBytes (shownEvents (x .tables))) (withMarks (x .desk) true (record { menu = false; events = false }))
+      (first-due (x .tables) (x .desk) ∙ rw (e, f) refl) (first-handed (x .desk) ∙ rw (e, f) refl)
+
+  -- .. and nothing due gives length 0, leaves every byte, and makes nothing outstanding: the card is as it was.
+  pub hands-out-nothing : x .desk .due .menu ≡ false → x .desk .due .events ≡ false → step x (systemCommand buffer) ≡ record { after = x; answer = numbered 0; buffer = buffer }
+  hands-out-nothing e f = hands [] (x .desk) (first-due (x .tables) (x .desk) ∙ rw (e, f) refl) (first-handed (x .desk) ∙ rw (e, f) refl)
