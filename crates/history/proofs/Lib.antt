@@ -22,6 +22,7 @@ pub mod Screen
 pub mod DoneAlready
 pub mod LockUnseen
 pub mod DeskNamed
+pub mod Sending
 pub mod OneShot
 pub mod MenuOrder
 pub mod Example
