@@ -18,6 +18,7 @@ use Rattle.rules.specs.Step.{arrivalDesk, proactiveDesk, deskAfter, tablesAfter
 use Rattle.rules.specs.Beside.{freshBy, freshCard}
 use Rattle.rules.specs.Runs.{after}
 use Rattle.rules.proofs.DueMarks.{marked-same, first-due, first-handed}
+use Rattle.runs.proofs.Run.{desk-lasts, marked-lasts}
 use Rattle.history.specs.Histories.{History, did, accepted}
 use Rattle.history.specs.Deeds.{profiles}
 use Rattle.history.specs.Runs.{historyOf}
@@ -42,29 +43,12 @@ unfolding freshCard freshBy lowest
 fresh-refused-is-fresh b title h = rw (lt-ltb (b .title) (length title) h) refl
 
 -- No call changes the title.
-title-after : (x : Model) (c : Call) → deskAfter x c .title ≡ x .desk .title
-unfolding deskAfter arrivalDesk proactiveDesk withProfile withHandedOut withFirst
-title-after x (admin c) = refl
-title-after x (event c) = refl
-title-after x (entry c) = refl
-title-after x (timer c) = refl
-title-after x (arrival (envelope bytes)) = refl
-title-after x (arrival (profile bytes)) = refl
-title-after x settled = refl
-title-after x (proactive (send n bytes)) = refl
-title-after x (proactive response) = refl
-title-after x (systemCommand buffer) = go (dueMatters (x .desk .due))
-  where
-    go : (l : List Matter) → withFirst (x .desk) l .title ≡ x .desk .title
-    go [] = refl
-    go (y ∷ l) = refl
-
 title-kept : (x : Model) (c : Call) → step x c .after .desk .title ≡ x .desk .title
 unfolding step outcome changed
 title-kept x c = go (refusal x c)
   where
     go : (k : ℕ) → outcome k x c .after .desk .title ≡ x .desk .title
-    go zero = marks-leave (λ d. d .title) (λ d y. refl) (x .tables) (tablesAfter (x .tables) c) (deskAfter x c) ∙ title-after x c
+    go zero = marked-lasts (x .tables) (tablesAfter (x .tables) c) (deskAfter x c) .title ∙ desk-lasts x c .title
     go (suc k) = refl
 
 -- THE TITLE is the one that the card was made with, after any calls.

@@ -73,9 +73,9 @@ tables-sound m (proactive c) e g = g
 tables-sound m (systemCommand buffer) e g = g
 
 -- The desk: no call changes the title, and a profile has its 32 bytes.
-record Lasting (d e : Desk) : Type 0 where
-  title : e .title ≡ d .title
-  profile : length (d .profile) ≡ 32 → length (e .profile) ≡ 32
+pub record Lasting (d e : Desk) : Type 0 where
+  pub title : e .title ≡ d .title
+  pub profile : length (d .profile) ≡ 32 → length (e .profile) ≡ 32
 
 lasts : (d : Desk) → Lasting d d
 lasts d = record { title = refl; profile = λ h. h }
@@ -88,7 +88,7 @@ handed-lasts d = go (dueMatters (d .due))
     go [] = lasts d
     go (x ∷ l) = record { title = refl; profile = λ h. h }
 
-desk-lasts : (m : Model) (c : Call) → Lasting (m .desk) (deskAfter m c)
+pub desk-lasts : (m : Model) (c : Call) → Lasting (m .desk) (deskAfter m c)
 unfolding deskAfter arrivalDesk proactiveDesk withProfile
 desk-lasts m (admin c) = lasts (m .desk)
 desk-lasts m (event c) = lasts (m .desk)
@@ -102,7 +102,7 @@ desk-lasts m (proactive (send n bytes)) = record { title = refl; profile = λ h.
 desk-lasts m (proactive response) = record { title = refl; profile = λ h. h }
 desk-lasts m (systemCommand buffer) = handed-lasts (m .desk)
 
-marked-lasts : (before later : Tables) (d : Desk) → Lasting d (marked before later d)
+pub marked-lasts : (before later : Tables) (d : Desk) → Lasting d (marked before later d)
 unfolding marked
 marked-lasts before later d = go (d .session)
   where
