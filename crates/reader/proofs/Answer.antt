@@ -101,7 +101,7 @@ module _ {s : List ℕ} {t : ℕ} (o : TitleAt s t) (z : t ≡ 0 → ⊥) where
   no-room h = refuse s (λ m p e. omega (arith, said m e .1, ap length (said m e .2), length-append (m .title) (itemsBytes (m .items)), some-items (m .items), length-drop t s))
 
   module _ (short : size ≤ 20) (room : t + size < length s) {from : ℕ} (i : ItemsAt s (t + size) mark from) {r : Parsed} (w : ItemsRead s from r) where
-    pub bad-items : (r .end ≡ length s → ⊥) → refused ≡ menuReader document s
+    pub bad-items : (r .next ≡ length s → ⊥) → refused ≡ menuReader document s
     bad-items h = refuse s (λ m p e. h (w .only (m .items) (p .items) (i .only (m .items) (marked m p e) (behind m e))))
       where
         marked : (m : Menu) → Stands m → menuBytes m ≡ s → (mark && empty? (m .items)) ≡ false
@@ -110,7 +110,7 @@ module _ {s : List ℕ} {t : ℕ} (o : TitleAt s t) (z : t ≡ 0 → ⊥) where
         behind : (m : Menu) → menuBytes m ≡ s → itemsBytes (m .items) ≡ drop (t + size) s
         behind m e = sym (drop-at (m .title) (itemsBytes (m .items)) size (sym (said m e .1))) ∙ ap (drop size) (sym (said m e .2)) ∙ drop-drop size t s
 
-    module _ (ends : r .end ≡ length s) where
+    module _ (ends : r .next ≡ length s) where
       abbrev menu : Menu
       menu = record { title = take size (drop t s); help = mark; items = w .done }
 

@@ -59,7 +59,7 @@ come-none s from e h =
 
 module _ {s : List ℕ} {from : ℕ} {at : List held.Item} {seen : List Bool} {next k : ℕ} (c : Come s from at seen next k) where
   -- it ends here, where no further item can stand
-  pub come-stop : ((x : Item) (l : List Item) → Stay (c .done ++ (x ∷ l)) → itemBytes x ++ gather itemBytes l ≡ drop next s → ⊥) → ItemsRead s from (record { at = at; count = k; end = next })
+  pub come-stop : ((x : Item) (l : List Item) → Stay (c .done ++ (x ∷ l)) → itemBytes x ++ gather itemBytes l ≡ drop next s → ⊥) → ItemsRead s from (record { at = at; count = k; next = next })
   unfolding gather
   come-stop f = record { done = c .done; stay = c .stay; bytes = c .bytes; at = c .form; count = c .many; within = c .within; only = λ l t e. go (c .rest l t e .others) (subst Stay (c .rest l t e .all) t) (c .rest l t e .bytes) }
     where
@@ -67,11 +67,11 @@ module _ {s : List ℕ} {from : ℕ} {at : List held.Item} {seen : List Bool} {n
       go [] t e = omega (arith, ap length e, length-drop next s, c .within)
       go (x ∷ l) t e = absurd (f x l t e)
 
-  pub come-full : 12 ≤ k → ItemsRead s from (record { at = at; count = k; end = next })
+  pub come-full : 12 ≤ k → ItemsRead s from (record { at = at; count = k; next = next })
   come-full h = come-stop (λ x l t e. absurd (omega (arith, t .few, length-append (c .done) (x ∷ l), c .many)))
 
   module _ {len : ℕ} (o : TextAt s next len) where
-    pub come-end : len ≡ 0 → ItemsRead s from (record { at = at; count = k; end = next })
+    pub come-end : len ≡ 0 → ItemsRead s from (record { at = at; count = k; next = next })
     unfolding every?
     come-end z =
         come-stop (λ x l t e.
@@ -83,7 +83,7 @@ module _ {s : List ℕ} {from : ℕ} {at : List held.Item} {seen : List Bool} {n
     unfolding itemBytes
     identifier-is x l e = sym (getD-drop next s 2 0) ∙ ap (λ (t : List ℕ). byte t 2) (sym e)
 
-    pub come-twice : byte s (next + 2) < 256 → getD seen (byte s (next + 2)) false ≡ true → ItemsRead s from (record { at = at; count = k; end = next })
+    pub come-twice : byte s (next + 2) < 256 → getD seen (byte s (next + 2)) false ≡ true → ItemsRead s from (record { at = at; count = k; next = next })
     come-twice h e =
         come-stop (λ x l t f.
         let i = identifier-is x (gather itemBytes l) f in

@@ -62,8 +62,8 @@ pub record TextAt (s : List ℕ) (at r : ℕ) : Type 0 where
 pub record ItemsRead (s : List ℕ) (from : ℕ) (r : Parsed) : Type 0 where
   pub done : List Item
   pub stay : Stay done
-  pub bytes : gather itemBytes done ++ drop (r .end) s ≡ drop from s
+  pub bytes : gather itemBytes done ++ drop (r .next) s ≡ drop from s
   pub at : r .at ≡ padded 12 (storedItem noItem) (map storedItem done)
   pub count : r .count ≡ length done
-  pub within : r .end ≤ length s
-  pub only : (l : List Item) → Stay l → gather itemBytes l ≡ drop from s → r .end ≡ length s
+  pub within : r .next ≤ length s
+  pub only : (l : List Item) → Stay l → gather itemBytes l ≡ drop from s → r .next ≡ length s

@@ -17,7 +17,7 @@ ghost use Rattle.reader.specs.Reads.{noItem, refused, ValueAt, TitleAt, 
 pub struct Parsed {
     pub at: [Item; Rows::MOST],
     pub count: usize,
-    pub end: usize,
+    pub next: usize,
 }
 
 // Where the value of a command starts, behind D0 and its length; 0 where the card would have written others.
@@ -138,23 +138,15 @@ fn read_items(bytes: &[u8], from: usize) -> Parsed
     let mut at = [none; Rows::MOST];
     let mut seen = [false; 256];
     let mut next = from;
-    let mut k: usize = 0;
-    while k < Rows::MOST {
+    let mut count: usize = 0;
+    while count < Rows::MOST {
         let len = text_len(bytes, next);
         if len == 0 {
-            return Parsed {
-                at,
-                count: k,
-                end: next,
-            };
+            return Parsed { at, count, next };
         }
         let identifier = bytes[next + 2];
         if seen[identifier as usize] {
-            return Parsed {
-                at,
-                count: k,
-                end: next,
-            };
+            return Parsed { at, count, next };
         }
         seen[identifier as usize] = true;
         let start = next + 3;
@@ -166,15 +158,11 @@ fn read_items(bytes: &[u8], from: usize) -> Parsed
             text,
             len: size,
         };
-        at[k] = item;
+        at[count] = item;
         next = end;
-        k += 1;
+        count += 1;
     }
-    Parsed {
-        at,
-        count: k,
-        end: next,
-    }
+    Parsed { at, count, next }
 }
 
 // The answer where the bytes are no menu command.
@@ -212,7 +200,7 @@ pub fn read_menu(bytes: &[u8]) -> Menu
     }
     let from = items_at(bytes, end, help);
     let parsed = read_items(bytes, from);
-    if parsed.end != bytes.len() {
+    if parsed.next != bytes.len() {
         return refusal();
     }
     let title = writing::held_title(&bytes[start..end]);

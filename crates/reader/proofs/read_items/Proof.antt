@@ -76,8 +76,8 @@ mul-at c = search needs
 array-set-from-at : tie.Need-array-set-from-at Inv-loop μ-loop
 array-set-from-at c = search needs
 
-add-k : tie.Need-add-k Inv-loop μ-loop
-add-k c = search needs
+add-count : tie.Need-add-count Inv-loop μ-loop
+add-count c = search needs
 
 loop-less : tie.Need-loop-less Inv-loop μ-loop
 loop-less c = search needs
@@ -117,7 +117,7 @@ read-items-spec =
     cast-size
     mul-at
     array-set-from-at
-    add-k
+    add-count
     loop-less
     loop-again
     returns-3)
