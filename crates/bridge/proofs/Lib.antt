@@ -6,3 +6,4 @@ pub mod OneMenu
 pub mod SameRuns
 pub mod RoundTrip
 pub mod OnScreen
+pub mod Final

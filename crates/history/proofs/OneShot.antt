@@ -83,7 +83,7 @@ module _ (title : List ℕ) (n : ℕ) where
   set-has-it calls ok = ap (hasOneShot n) (accepted-more setsIt _ (historyOf title calls) ok) ∙ rw (same n) refl
 
   -- it waits
-  waits : (stretch calls : List Call) → Each Spares stretch calls → hasOneShot n (past title calls) ≡ true → hasOneShot n (past title (stretch ++ calls)) ≡ true
+  pub waits : (stretch calls : List Call) → Each Spares stretch calls → hasOneShot n (past title calls) ≡ true → hasOneShot n (past title (stretch ++ calls)) ≡ true
   unfolding Each
   waits [] calls s e = e
   waits (c ∷ l) calls s e = go (step (m title (l ++ calls)) c .answer .refusal) refl (waits l calls (s .1) e)
