@@ -1,12 +1,12 @@
 -- THE FINAL THEOREM: what specs/Promised.antt says holds of every card that the public functions have left, and of their calls as they
 -- were seen. Each sentence is cited from where it is proved. Assumes nothing.
-use Prim.Native.Nat.{ℕ, suc, _≤_, _<_}
+use Prim.Native.Nat.{ℕ, suc, _-_, _≤_, _<_}
 use native.Mathlib.Omega.{arith}
 use mathlib.Core.Path.{_≡_, refl, sym, ap, ap₂, subst, _∙_}
 use mathlib.Core.Bool.{Bool, true, false}
-use mathlib.Core.List.{List, [], _∷_}
+use mathlib.Core.List.{List, [], _∷_, _++_}
 use mathlib.Core.Logic.{_⊎_, inl, inr}
-use lib.ListN.{length, getD}
+use lib.ListN.{length, take, drop, getD}
 use Rattle.lists.specs.Tests.{if_then_else_}
 use Rattle.lists.specs.Lists.{keep, times}
 use Rattle.lists.specs.Tables.{table}
@@ -18,13 +18,17 @@ use Rattle.rules.specs.Held.{viewRows, storedRows, viewDesk, storedDesk}
 use Rattle.rules.specs.Events.{callControl, handlerAvailable}
 use Rattle.rules.specs.Applets.{nobody, present, applet}
 use Rattle.rules.specs.Envelopes.{envelopeOf}
-use Rattle.rules.specs.Commands.{shownMenu, menuOf, menuBytes}
+use Rattle.rules.specs.Rows.{nextPair}
+use Rattle.rules.specs.Commands.{Menu, shownMenu, menuOf, menuBytes}
 use Rattle.rules.specs.Arrivals.{Arrival, envelopeMarks}
-use Rattle.rules.specs.Calls.{Call, Answer, Outcome, event, settled, askEvent}
-use Rattle.rules.specs.Step.{arrivalAnswer, answer, step}
+use Rattle.rules.specs.Calls.{Call, Answer, Outcome, settled, systemCommand}
+use Rattle.rules.specs.Desk.{dueCommand}
+use Rattle.rules.specs.Step.{arrivalAnswer, answer, written, front, outcome, step}
+use Rattle.rules.specs.Beside.{ReadOutcome, menuReader}
 use Rattle.rules.specs.Runs.{after}
 use Rattle.rules.proofs.Held.{rows-back, desk-back}
 use Rattle.rules.proofs.Refused.{refused}
+use Rattle.rules.proofs.DueMarks.{first-due}
 use Rattle.runs.proofs.Looked.{absent-nobody}
 use Rattle.applets.specs.ByNumber.{at, rollOf, selectableSet, registeredSet}
 use Rattle.applets.proofs.Numbers.{present-in}
@@ -34,15 +38,19 @@ use Rattle.card.proofs.Left.{after-seen}
 use Rattle.history.specs.Histories.{History, accepted}
 use Rattle.history.specs.Named.{isSelectable, isRegistered, hasOneShot}
 use Rattle.history.specs.Called.{isNamed, isDue, arrivalIn}
-use Rattle.history.specs.Handed.{Seen, seen, titleOf, isShown}
+use Rattle.history.specs.Handed.{Seen, seen, seenOf, handed, titleOf, isShown}
+use Rattle.history.specs.OnScreen.{command, ScreenRight}
 use Rattle.history.proofs.Agrees.{ground}
 use Rattle.history.proofs.Answered.{passes, answers, refuses}
 use Rattle.history.proofs.OneShot.{Each, waits, only-settled-arrives-so}
 use Rattle.history.proofs.Promises as runs
 use Rattle.history.proofs.DeskNamed.{title-is-the-one-given, profile-is-the-last-one}
 use Rattle.history.proofs.Shown.{rows-shown}
+use Rattle.history.proofs.HandOuts.{handed-due}
+use Rattle.history.proofs.Screen.{screen-is-right}
+use Rattle.history.proofs.MenuOrder.{AlwaysInUse, rows-keep-their-order, new-row-at-its-place, new-row-last-for-0, new-row-last-behind-all}
 use Rattle.bridge.specs.Watched.{entriesOf, callsOf, Next, Watched}
-use Rattle.bridge.specs.Promised.{callOf, refusalOf, calledBy, Judged, Holds, Answers}
+use Rattle.bridge.specs.Promised.{callOf, refusalOf, calledBy, Judged, Holds, Answers, positionOf, newRow, Orders, HandsOut, Shows}
 use Rattle.bridge.proofs.OnScreen.{Says, next-says}
 use Rattle.bridge.proofs.DemandOne.{answer-is-the-lowest}
 
@@ -87,6 +95,11 @@ module _ (title : List ℕ) (calls : List Call) where
   unfolding stored
   rows-are = rows-back (m .tables .rows)
 
+  -- the rows that are to be shown
+  shown-is : shownMenu (m .tables) ≡ keep (isShown h) (viewRows (c .rows))
+  shown-is =
+      rows-shown (m .tables) h (runs.sound title calls) (runs.agree title calls .tables) (runs.from-1-to-8 title calls) ∙ sym (ap (keep (isShown h)) rows-are)
+
   -- DEMAND 3, the tables
   holds : Holds title h c
   unfolding stored storedRows storedDesk rollOf selectableSet registeredSet viewDesk applet
@@ -116,11 +129,17 @@ module _ (title : List ℕ) (calls : List Call) where
         outstanding = runs.outstanding-is-named title calls;
       }
     where
-      shown-is : shownMenu (m .tables) ≡ keep (isShown h) (viewRows (c .rows))
-      shown-is = rows-shown (m .tables) h (runs.sound title calls) (runs.agree title calls .tables) (runs.from-1-to-8 title calls) ∙ sym (ap (keep (isShown h)) rows-are)
-
       fits-as : length (menuBytes (menuOf (titleOf title) (shownMenu (m .tables)))) ≤ 250
       fits-as = subst (λ (t : List ℕ). length (menuBytes (menuOf t (shownMenu (m .tables)))) ≤ 250) (title-is-the-one-given title calls) (runs.menu-command-fits title calls)
+
+-- what the menu reader answers with a menu
+abbrev readAs : Menu → ReadOutcome
+readAs x = record { refusal = 0; menu = x }
+
+-- an accepted hand-out writes at the front
+front-so : (v : Model) (buffer : List ℕ) → step v (systemCommand buffer) .answer .refusal ≡ 0 → step v (systemCommand buffer) .buffer ≡ front (dueCommand (v .tables) (v .desk)) buffer
+unfolding step outcome written
+front-so v buffer ok = ap (λ (n : ℕ). outcome n v (systemCommand buffer) .buffer) (passes v (systemCommand buffer) ok)
 
 -- a call more after these, as it is seen
 module _ (title : List ℕ) (calls : List Call) (x : Call) where
@@ -194,3 +213,64 @@ module _ (title : List ℕ) (calls : List Call) (x : Call) where
       marks-are : {y : Call} → step (m title calls) x .answer .refusal ≡ 0 → x ≡ y → s .entry .answer .marks ≡ answer (m title calls) y .marks
       marks-are ok e =
           ap (λ (a : Answer). a .marks) (answers (m title calls) x (passes (m title calls) x ok)) ∙ ap (λ (y : Call). answer (m title calls) y .marks) e
+
+  -- DEMAND 2, the menu order
+  orders : Orders (positionOf (c title calls)) (viewRows (c title calls .rows)) s (viewRows (k .rows))
+  unfolding after AlwaysInUse
+  orders =
+      subst (λ (v : Model). Orders (λ n. nextPair (applet (v .tables) n) .position) (viewRows (c title calls .rows)) s (viewRows (k .rows))) (sym (after-seen title calls))
+      (rw (rows-are title calls, rows-are title (x ∷ calls)) record {
+        at-its-place = λ n help text e.
+          subst (λ (y : Call). Accepts y → 1 ≤ position n → position n ≤ length before → rowsAfter y ≡ take (position n - 1) before ++ newRow (seenBy y) n help text ∷ drop (position n - 1) before)
+          (sym e) (new-row-at-its-place (m title calls) n help text);
+        last-for-0 = λ n help text e. subst (λ (y : Call). Accepts y → position n ≡ 0 → rowsAfter y ≡ before ++ newRow (seenBy y) n help text ∷ []) (sym e) (new-row-last-for-0 (m title calls) n help text);
+        last-behind = λ n help text e.
+          subst (λ (y : Call). Accepts y → length before < position n → rowsAfter y ≡ before ++ newRow (seenBy y) n help text ∷ []) (sym e) (new-row-last-behind-all (m title calls) n help text);
+        kept = λ p a b. rows-keep-their-order p title (x ∷ []) calls (a, b);
+      })
+    where
+      before : List Row
+      before = m title calls .tables .rows
+
+      position : ℕ → ℕ
+      position n = nextPair (applet (m title calls .tables) n) .position
+
+      seenBy : Call → Seen
+      seenBy y = seen y (step (m title calls) y)
+
+      Accepts : Call → Type 0
+      Accepts y = step (m title calls) y .answer .refusal ≡ 0
+
+      rowsAfter : Call → List Row
+      rowsAfter y = step (m title calls) y .after .tables .rows
+
+  -- THE SCREEN, by a call
+  shows : Shows title (h title calls) (c title calls) s k
+  unfolding stored storedDesk
+  shows =
+      record {
+        hands-out = λ buffer ok e. hand-out buffer e (named-so e ok);
+        accepts = λ buffer e idle room.
+          ap (λ (y : Call). step (m title calls) y .answer .refusal) e ∙ right .accepts buffer (sym (runs.outstanding-is-named title calls) ∙ idle) room;
+        sent = λ n bytes ok e. right .sent n bytes (named-so e ok);
+      }
+    where
+      right : ScreenRight title (seenOf title calls) (m title calls) (h title calls)
+      right = screen-is-right title calls
+
+      hand-out : (buffer : List ℕ) → x ≡ systemCommand buffer → step (m title calls) (systemCommand buffer) .answer .refusal ≡ 0
+          → HandsOut title (h title calls) (c title calls) s k buffer
+      hand-out buffer e ok =
+          let does = right .hand-out buffer ok in
+          let due = handed-due (m title calls) buffer (passes (m title calls) (systemCommand buffer) ok) in
+          let by : handed s ≡ command (m title calls) buffer = ap (λ (y : Call). handed (seen y (step (m title calls) y))) e in
+          record {
+            menu-first = λ q.
+              by ∙ due ∙ first-due (m title calls .tables) (m title calls .desk) ∙ rw q refl
+              ∙ ap₂ (λ (t : List ℕ) (r : List Row). menuBytes (menuOf t r)) (title-is-the-one-given title calls) (shown-is title calls);
+            read-back = λ q. ap (menuReader document) by ∙ does .menu-first q ∙ sym (ap (λ (r : List Row). readAs (menuOf (titleOf title) (keep (isShown (h title calls)) r))) (rows-are title calls));
+            then-events = λ p q. by ∙ does .then-events p q;
+            else-nothing = λ p q. by ∙ does .else-nothing p q;
+            at-the-front = ap (λ (y : Call). step (m title calls) y .buffer) e ∙ front-so (m title calls) buffer ok ∙ ap (λ (b : List ℕ). front b buffer) (sym (by ∙ due));
+            clears = ap (λ (y : Call). step (m title calls) y .after .desk .due) e ∙ does .clears;
+          }

@@ -140,19 +140,19 @@ positionOf c n = nextPair (applet (view c .tables) n) .position
 abbrev pub newRow : Seen → (applet : ℕ) (help : Bool) (text : List ℕ) → Row
 newRow s n help text = record { identifier = s .entry .answer .number; owner = n; text = text; help = help; enabled = true }
 
-pub record Orders (c : Card) (s : Seen) (k : Card) : Type 0 where
-  -- Position p from 1 to the row count shifts rows p and after down by one ..
-  pub at-its-place : (n : ℕ) (help : Bool) (text : List ℕ) → refusalOf s ≡ 0 → callOf s ≡ entry (newEntry n help text)
-      → 1 ≤ positionOf c n → positionOf c n ≤ length (viewRows (c .rows))
-      → viewRows (k .rows) ≡ take (positionOf c n - 1) (viewRows (c .rows)) ++ newRow s n help text ∷ drop (positionOf c n - 1) (viewRows (c .rows))
+-- The rows before and after a call, with the positions that were requested.
+pub record Orders (position : ℕ → ℕ) (before : List Row) (s : Seen) (after : List Row) : Type 0 where
+  -- A new row stands at its place: position p from 1 to the row count shifts rows p and after down by one ..
+  pub at-its-place : (n : ℕ) (help : Bool) (text : List ℕ) → callOf s ≡ entry (newEntry n help text) → refusalOf s ≡ 0
+      → 1 ≤ position n → position n ≤ length before → after ≡ take (position n - 1) before ++ newRow s n help text ∷ drop (position n - 1) before
   -- .. 0, or more than the row count, means last.
-  pub last-for-0 : (n : ℕ) (help : Bool) (text : List ℕ) → refusalOf s ≡ 0 → callOf s ≡ entry (newEntry n help text)
-      → positionOf c n ≡ 0 → viewRows (k .rows) ≡ viewRows (c .rows) ++ newRow s n help text ∷ []
-  pub last-behind : (n : ℕ) (help : Bool) (text : List ℕ) → refusalOf s ≡ 0 → callOf s ≡ entry (newEntry n help text)
-      → length (viewRows (c .rows)) < positionOf c n → viewRows (k .rows) ≡ viewRows (c .rows) ++ newRow s n help text ∷ []
+  pub last-for-0 : (n : ℕ) (help : Bool) (text : List ℕ) → callOf s ≡ entry (newEntry n help text) → refusalOf s ≡ 0
+      → position n ≡ 0 → after ≡ before ++ newRow s n help text ∷ []
+  pub last-behind : (n : ℕ) (help : Bool) (text : List ℕ) → callOf s ≡ entry (newEntry n help text) → refusalOf s ≡ 0
+      → length before < position n → after ≡ before ++ newRow s n help text ∷ []
   -- Whatever the call, the rows that stay keep their order among each other.
-  pub kept : (p : ℕ → Bool) → ((i : ℕ) → p i ≡ true → (inUse i (viewRows (c .rows)) ≡ true) × (inUse i (viewRows (k .rows)) ≡ true))
-      → keep p (map (λ (r : Row). r .identifier) (viewRows (k .rows))) ≡ keep p (map (λ (r : Row). r .identifier) (viewRows (c .rows)))
+  pub kept : (p : ℕ → Bool) → ((i : ℕ) → p i ≡ true → inUse i after ≡ true) → ((i : ℕ) → p i ≡ true → inUse i before ≡ true)
+      → keep p (map (λ (r : Row). r .identifier) after) ≡ keep p (map (λ (r : Row). r .identifier) before)
 
 -- THE SCREEN. The menu that the history wants: the title, and the enabled rows of selectable applets in the menu list's order.
 abbrev pub menuWanted : (asked : List ℕ) → History → Card → Menu
@@ -194,7 +194,7 @@ pub record Promised (asked : List ℕ) (l : List Seen) (c : Card) : Type 0 where
   pub taken : (x : Call) → Taken c x
   pub judged : (s : Seen) (k : Card) → Next c s k → Judged c s k
   -- demand 2: the menu order; and with demand 3 registration, triggering order and handler availability
-  pub orders : (s : Seen) (k : Card) → Next c s k → Orders c s k
+  pub orders : (s : Seen) (k : Card) → Next c s k → Orders (positionOf c) (viewRows (c .rows)) s (viewRows (k .rows))
   -- demand 3
   pub holds : Holds asked (accepted (entriesOf l)) c
   pub answers : (s : Seen) (k : Card) → Next c s k → Answers (accepted (entriesOf l)) c s k
