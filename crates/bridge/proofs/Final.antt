@@ -13,6 +13,7 @@ use Rattle.lists.specs.Tables.{table}
 use Rattle.lists.proofs.Tables.{table-at}
 use Rattle.sets.specs.Sets.{has?, isNumber, setOf}
 use Rattle.sets.proofs.Bits.{is-number, no-number, has-set, has-none}
+use Rattle.rules.specs.declared.Due.{Due}
 use Rattle.rules.specs.Holds.{Row, Applet, Model, document}
 use Rattle.rules.specs.Held.{viewRows, storedRows, viewDesk, storedDesk}
 use Rattle.rules.specs.Events.{callControl, handlerAvailable}
@@ -21,7 +22,8 @@ use Rattle.rules.specs.Envelopes.{envelopeOf}
 use Rattle.rules.specs.Rows.{nextPair}
 use Rattle.rules.specs.Commands.{Menu, shownMenu, menuOf, menuBytes}
 use Rattle.rules.specs.Arrivals.{Arrival, envelopeMarks}
-use Rattle.rules.specs.Calls.{Call, Answer, Outcome, settled, systemCommand}
+use Rattle.rules.specs.Calls.{Call, Answer, Outcome, admin, event, entry, timer, arrival, settled, proactive, systemCommand}
+use Rattle.rules.specs.Calls.{setEvent, clearEvent, askEvent, newEntry, changeEntry, enableEntry, disableEntry, allocate, release}
 use Rattle.rules.specs.Desk.{dueCommand}
 use Rattle.rules.specs.Step.{arrivalAnswer, answer, written, front, outcome, step}
 use Rattle.rules.specs.Beside.{ReadOutcome, menuReader}
@@ -34,9 +36,11 @@ use Rattle.applets.specs.ByNumber.{at, rollOf, selectableSet, registeredSet}
 use Rattle.applets.proofs.Numbers.{present-in}
 use Rattle.card.specs.declared.Card.{Card}
 use Rattle.card.specs.View.{view, stored, Left}
+use Rattle.card.specs.Kinds.{Doing, is-admin, is-set, is-clear, is-change, is-enable, is-disable, is-release, is-proactive, Giving, is-new, is-allocate, is-command, Telling, is-ask, Naming, is-arrival, is-settled}
+use Rattle.card.specs.Reply.{changedBy, numberedBy, askedBy, arrivedBy}
 use Rattle.card.proofs.Left.{after-seen}
 use Rattle.history.specs.Histories.{History, accepted}
-use Rattle.history.specs.Named.{isSelectable, isRegistered, hasOneShot}
+use Rattle.history.specs.Named.{isSelectable, isRegistered, hasOneShot, isOutstanding}
 use Rattle.history.specs.Called.{isNamed, isDue, arrivalIn}
 use Rattle.history.specs.Handed.{Seen, seen, seenOf, handed, titleOf, isShown}
 use Rattle.history.specs.OnScreen.{command, ScreenRight}
@@ -49,9 +53,10 @@ use Rattle.history.proofs.Shown.{rows-shown}
 use Rattle.history.proofs.HandOuts.{handed-due}
 use Rattle.history.proofs.Screen.{screen-is-right}
 use Rattle.history.proofs.MenuOrder.{AlwaysInUse, rows-keep-their-order, new-row-at-its-place, new-row-last-for-0, new-row-last-behind-all}
-use Rattle.bridge.specs.Watched.{entriesOf, callsOf, Next, Watched}
-use Rattle.bridge.specs.Promised.{callOf, refusalOf, calledBy, Judged, Holds, Answers, positionOf, newRow, Orders, HandsOut, Shows}
-use Rattle.bridge.proofs.OnScreen.{Says, next-says}
+use Rattle.bridge.specs.Watched.{entriesOf, callsOf, Next, done, given, told, named, Watched, more}
+use Rattle.bridge.specs.Promised.{callOf, refusalOf, calledBy, Taken, Judged, Holds, Answers, positionOf, newRow, Orders, HandsOut, Shows, OnScreen, Promised}
+use Rattle.bridge.proofs.OnScreen.{next-says, same-view, watched-same, entries-seen}
+use Rattle.bridge.proofs.OnScreen as watched
 use Rattle.bridge.proofs.DemandOne.{answer-is-the-lowest}
 
 -- a set of numbers, where no number outside 1 to 8 passes
@@ -221,11 +226,11 @@ module _ (title : List ℕ) (calls : List Call) (x : Call) where
       subst (λ (v : Model). Orders (λ n. nextPair (applet (v .tables) n) .position) (viewRows (c title calls .rows)) s (viewRows (k .rows))) (sym (after-seen title calls))
       (rw (rows-are title calls, rows-are title (x ∷ calls)) record {
         at-its-place = λ n help text e.
-          subst (λ (y : Call). Accepts y → 1 ≤ position n → position n ≤ length before → rowsAfter y ≡ take (position n - 1) before ++ newRow (seenBy y) n help text ∷ drop (position n - 1) before)
-          (sym e) (new-row-at-its-place (m title calls) n help text);
+            subst (λ (y : Call). Accepts y → 1 ≤ position n → position n ≤ length before → rowsAfter y ≡ take (position n - 1) before ++ newRow (seenBy y) n help text ∷ drop (position n - 1) before)
+            (sym e) (new-row-at-its-place (m title calls) n help text);
         last-for-0 = λ n help text e. subst (λ (y : Call). Accepts y → position n ≡ 0 → rowsAfter y ≡ before ++ newRow (seenBy y) n help text ∷ []) (sym e) (new-row-last-for-0 (m title calls) n help text);
         last-behind = λ n help text e.
-          subst (λ (y : Call). Accepts y → length before < position n → rowsAfter y ≡ before ++ newRow (seenBy y) n help text ∷ []) (sym e) (new-row-last-behind-all (m title calls) n help text);
+            subst (λ (y : Call). Accepts y → length before < position n → rowsAfter y ≡ before ++ newRow (seenBy y) n help text ∷ []) (sym e) (new-row-last-behind-all (m title calls) n help text);
         kept = λ p a b. rows-keep-their-order p title (x ∷ []) calls (a, b);
       })
     where
@@ -251,7 +256,7 @@ module _ (title : List ℕ) (calls : List Call) (x : Call) where
       record {
         hands-out = λ buffer ok e. hand-out buffer e (named-so e ok);
         accepts = λ buffer e idle room.
-          ap (λ (y : Call). step (m title calls) y .answer .refusal) e ∙ right .accepts buffer (sym (runs.outstanding-is-named title calls) ∙ idle) room;
+            ap (λ (y : Call). step (m title calls) y .answer .refusal) e ∙ right .accepts buffer (sym (runs.outstanding-is-named title calls) ∙ idle) room;
         sent = λ n bytes ok e. right .sent n bytes (named-so e ok);
       }
     where
@@ -266,11 +271,98 @@ module _ (title : List ℕ) (calls : List Call) (x : Call) where
           let by : handed s ≡ command (m title calls) buffer = ap (λ (y : Call). handed (seen y (step (m title calls) y))) e in
           record {
             menu-first = λ q.
-              by ∙ due ∙ first-due (m title calls .tables) (m title calls .desk) ∙ rw q refl
-              ∙ ap₂ (λ (t : List ℕ) (r : List Row). menuBytes (menuOf t r)) (title-is-the-one-given title calls) (shown-is title calls);
+                by ∙ due ∙ first-due (m title calls .tables) (m title calls .desk) ∙ rw q refl
+                ∙ ap₂ (λ (t : List ℕ) (r : List Row). menuBytes (menuOf t r)) (title-is-the-one-given title calls) (shown-is title calls);
             read-back = λ q. ap (menuReader document) by ∙ does .menu-first q ∙ sym (ap (λ (r : List Row). readAs (menuOf (titleOf title) (keep (isShown (h title calls)) r))) (rows-are title calls));
             then-events = λ p q. by ∙ does .then-events p q;
             else-nothing = λ p q. by ∙ does .else-nothing p q;
             at-the-front = ap (λ (y : Call). step (m title calls) y .buffer) e ∙ front-so (m title calls) buffer ok ∙ ap (λ (b : List ℕ). front b buffer) (sym (by ∙ due));
             clears = ap (λ (y : Call). step (m title calls) y .after .desk .due) e ∙ does .clears;
           }
+
+-- DEMAND 1, every call is taken, whatever its inputs
+module _ (c : Card) where
+  does : {x : Call} → Doing x → Taken c x
+  does {x} d = record { seen = _; card = _; next = done d (changedBy (step (view c) x)) refl; call = refl }
+
+  gives : {x : Call} → Giving x → Taken c x
+  gives {x} d = record { seen = _; card = _; next = given d (numberedBy (step (view c) x)) (step (view c) x .buffer) refl refl; call = refl }
+
+  tells : {x : Call} → Telling x → Taken c x
+  tells {x} d = record { seen = _; card = _; next = told d (askedBy (step (view c) x)) refl; call = refl }
+
+  names : {x : Call} → Naming x → Taken c x
+  names {x} d = record { seen = _; card = _; next = named d (arrivedBy (step (view c) x)) refl; call = refl }
+
+  taken : (x : Call) → Taken c x
+  taken (admin y) = does (is-admin y)
+  taken (event (setEvent n v)) = does (is-set n v)
+  taken (event (clearEvent n v)) = does (is-clear n v)
+  taken (event (askEvent n v)) = tells (is-ask n v)
+  taken (entry (newEntry n help text)) = gives (is-new n help text)
+  taken (entry (changeEntry n i help text)) = does (is-change n i help text)
+  taken (entry (enableEntry n i)) = does (is-enable n i)
+  taken (entry (disableEntry n i)) = does (is-disable n i)
+  taken (timer (allocate n)) = gives (is-allocate n)
+  taken (timer (release n t)) = does (is-release n t)
+  taken (arrival y) = names (is-arrival y)
+  taken settled = names is-settled
+  taken (proactive y) = does (is-proactive y)
+  taken (systemCommand buffer) = gives (is-command buffer)
+
+-- a card that the public functions have left
+module _ {title : List ℕ} {l : List Seen} {c : Card} (w : Watched title l c) where
+  abbrev past : History
+  past = accepted (entriesOf l)
+
+  past-is : h title (callsOf l) ≡ past
+  past-is = ap accepted (sym (entries-seen title (callsOf l)) ∙ ap entriesOf (sym (watched-same w .seen)))
+
+  -- what holds after the calls holds of the card ..
+  of-card : (P : History → Card → Type 0) → P (h title (callsOf l)) (stored (m title (callsOf l))) → P past c
+  of-card P p = subst (λ (j : Card). P past j) (sym (watched-same w .holds)) (subst (λ (g : History). P g (stored (m title (callsOf l)))) past-is p)
+
+  -- .. and what holds of a call after them holds of the call as it is seen
+  of-call : (P : History → Card → Seen → Card → Type 0)
+      → ((x : Call) → P (h title (callsOf l)) (stored (m title (callsOf l))) (seen x (step (m title (callsOf l)) x)) (stored (step (m title (callsOf l)) x .after)))
+      → (t : Seen) (j : Card) → Next c t j → P past c t j
+  of-call P p t j n =
+      let x = callOf t in
+      let v : view c ≡ m title (callsOf l) = same-view (watched-same w) in
+      let as-seen : t ≡ seen x (step (m title (callsOf l)) x) = next-says n .seen ∙ ap (λ (v : Model). seen x (step v x)) v in
+      let as-left : j ≡ stored (step (m title (callsOf l)) x .after) = next-says n .card ∙ ap (λ (v : Model). stored (step v x .after)) v in
+      subst (λ (t : Seen). P past c t j) (sym as-seen)
+      (subst (λ (j : Card). P past c (seen x (step (m title (callsOf l)) x)) j) (sym as-left)
+      (of-card (λ (g : History) (d : Card). P g d (seen x (step (m title (callsOf l)) x)) (stored (step (m title (callsOf l)) x .after))) (p x)))
+
+  holds-of-it : Holds title past c
+  holds-of-it = of-card (Holds title) (holds title (callsOf l))
+
+  on-screen : OnScreen title l c
+  unfolding view viewDesk after
+  on-screen =
+      record {
+        menu = λ e. watched.screen-is-right w .menu (sym (holds-of-it .session) ∙ e);
+        codes = λ e. watched.screen-is-right w .codes (sym (holds-of-it .session) ∙ e);
+        two-are-enough = λ s t u k j i a b d buffer other p q r idle room space.
+            ap (λ (v : Model). v .desk .due) (same-view (watched-same (more d (more b (more a w)))))
+            ∙ ap (λ (x : Call). due-after x (callOf t) (callOf u)) p
+            ∙ ap₂ (due-after (systemCommand buffer)) q r
+            ∙ screen-is-right title (callsOf l) .two-are-enough buffer other (ap isOutstanding past-is ∙ sym (holds-of-it .outstanding) ∙ idle) room space;
+      }
+    where
+      due-after : Call → Call → Call → Due
+      due-after x y z = step (step (step (m title (callsOf l)) x .after) y .after) z .after .desk .due
+
+  -- THE THEOREM
+  pub promised : Promised title l c
+  promised =
+      record {
+        taken = taken c;
+        judged = of-call (λ g d t j. Judged d t j) (judged title (callsOf l));
+        orders = of-call (λ g d t j. Orders (positionOf d) (viewRows (d .rows)) t (viewRows (j .rows))) (orders title (callsOf l));
+        holds = holds-of-it;
+        answers = of-call Answers (answers-so title (callsOf l));
+        shows = of-call (Shows title) (shows title (callsOf l));
+        screen = on-screen;
+      }
