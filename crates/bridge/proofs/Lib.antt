@@ -6,4 +6,6 @@ pub mod OneMenu
 pub mod SameRuns
 pub mod RoundTrip
 pub mod OnScreen
+pub mod TablesNamed
+pub mod CallsNamed
 pub mod Final
