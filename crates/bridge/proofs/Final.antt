@@ -19,8 +19,8 @@ use Rattle.history.specs.Named.{isOutstanding}
 use Rattle.history.specs.Handed.{Seen, seen}
 use Rattle.history.proofs.Answered.{answers}
 use Rattle.history.proofs.Screen.{screen-is-right}
-use Rattle.bridge.specs.Watched.{entriesOf, callsOf, Next, done, given, told, named, Watched, more}
-use Rattle.bridge.specs.Promised.{callOf, Taken, Judged, Holds, Answers, positionOf, Orders, Shows, OnScreen, Promised}
+use Rattle.bridge.specs.Watched.{entriesOf, callsOf, Next, done, given, told, named, Watched, more, callOf}
+use Rattle.bridge.specs.Promised.{Taken, Judged, Holds, Answers, positionOf, Orders, Shows, OnScreen, Promised}
 use Rattle.bridge.proofs.OnScreen.{next-says, same-view, watched-same, entries-seen}
 use Rattle.bridge.proofs.OnScreen as watched
 use Rattle.bridge.proofs.TablesNamed.{m, h, holds}

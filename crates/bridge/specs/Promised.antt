@@ -33,17 +33,7 @@ use Rattle.history.specs.Called.{isChosen, isHelped, isDue, Calls, arrivalIn}
 use Rattle.history.specs.Handed.{Seen, titleOf, handed, isEventList, codesHanded, isShown, codesNamed}
 use Rattle.history.specs.OnScreen.{leftDue, MenuRight}
 use Rattle.history.proofs.DeskNamed.{profileNamed}
-use Rattle.bridge.specs.Watched.{entriesOf, Next}
-
--- the call that was seen, the number of its refusal (0: accepted), and those that it called
-abbrev pub callOf : Seen → Call
-callOf s = s .entry .call
-
-abbrev pub refusalOf : Seen → ℕ
-refusalOf s = s .entry .answer .refusal
-
-abbrev pub calledBy : Seen → List ℕ
-calledBy s = s .entry .answer .called
+use Rattle.bridge.specs.Watched.{entriesOf, callOf, refusalOf, calledBy, Next}
 
 -- DEMAND 1. Every public call takes every input ..
 pub record Taken (c : Card) (x : Call) : Type 0 where
@@ -92,8 +82,10 @@ pub record Holds (asked : List ℕ) (h : History) (c : Card) : Type 0 where
   pub present : (n : ℕ) → has? (c .roll .present) n ≡ isPresent n h
   pub selectable : (n : ℕ) → has? (c .selectable) n ≡ isSelectable n h
   pub applet-count : c .roll .count ≡ count (λ n. isPresent n h) oneToEight
-  -- The title is the one that the card was made with; the profile, whether a session has begun and a command is outstanding are those
+  -- The title is the one that the card was made with, or empty where that was too long; the profile, whether a session has begun and a command is outstanding are those
   -- that the history names.
+  pub title-kept : length asked ≤ 20 → titleOf asked ≡ asked
+  pub title-long : 20 < length asked → titleOf asked ≡ []
   pub title : take (c .desk .«title_len») (c .desk .title) ≡ titleOf asked
   pub profile : c .desk .profile ≡ profileNamed h
   pub session : c .desk .session ≡ inSession h

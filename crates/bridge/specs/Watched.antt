@@ -30,6 +30,16 @@ entriesOf l = map (λ (s : Seen). s .entry) l
 abbrev pub callsOf : List Seen → List Call
 callsOf l = map (λ (s : Seen). s .entry .call) l
 
+-- the call that was seen, the number of its refusal (0: accepted), and those that it called
+abbrev pub callOf : Seen → Call
+callOf s = s .entry .call
+
+abbrev pub refusalOf : Seen → ℕ
+refusalOf s = s .entry .answer .refusal
+
+abbrev pub calledBy : Seen → List ℕ
+calledBy s = s .entry .answer .called
+
 -- ONE CALL ON A CARD: as it is seen, and the card that its method hands back. Of the calls that give a number the system command is
 -- lent a buffer, and no other call is.
 pub data Next (c : Card) : Seen → Card → Type 0 where

@@ -93,7 +93,7 @@ module _ (title : List ℕ) (n : ℕ) where
       go (suc k) no-way i = ap (hasOneShot n) (refused-call-leaves-the-past title (l ++ calls) c k no-way) ∙ i
 
   -- used up, it stays so
-  none-set : (x : Entry) (h : History) → sets n handlerAvailable x ≡ false → isRegistered n handlerAvailable h ≡ false → isRegistered n handlerAvailable (x ∷ h) ≡ false
+  pub none-set : (x : Entry) (h : History) → sets n handlerAvailable x ≡ false → isRegistered n handlerAvailable h ≡ false → isRegistered n handlerAvailable (x ∷ h) ≡ false
   unfolding isRegistered
   none-set x h s e =
       rw (s, e) (ap (λ (b : Bool). if clears n handlerAvailable x || deletes n x then false else b) (if-same (usesUp n handlerAvailable x h) false) ∙ if-same (clears n handlerAvailable x || deletes n x) false)
