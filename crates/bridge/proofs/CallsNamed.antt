@@ -41,7 +41,7 @@ use Rattle.history.proofs.Screen.{screen-is-right}
 use Rattle.history.proofs.MenuOrder.{AlwaysInUse, rows-keep-their-order, new-row-at-its-place, new-row-last-for-0, new-row-last-behind-all}
 use Rattle.bridge.specs.Watched.{told, more, calledBy}
 use Rattle.bridge.specs.Promised.{Judged, Answers, positionOf, newRow, Orders, HandsOut, Shows}
-use Rattle.bridge.proofs.OnScreen.{next-says}
+use Rattle.bridge.proofs.SameRuns.{next-says}
 use Rattle.bridge.proofs.DemandOne.{answer-is-the-lowest}
 use Rattle.bridge.proofs.TablesNamed.{m, h, c, rows-are, shown-is, holds}
 

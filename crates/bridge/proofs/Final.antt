@@ -1,7 +1,7 @@
 -- THE FINAL THEOREM: what specs/Promised.antt says holds of every card that the public functions have left, and of their calls as they
 -- were seen. Assumes nothing.
 use Prim.Native.Nat.{ℕ}
-use mathlib.Core.Path.{_≡_, refl, sym, ap, ap₂, subst, _∙_}
+use mathlib.Core.Path.{refl, sym, ap, ap₂, _∙_}
 use mathlib.Core.List.{List}
 use Rattle.rules.specs.declared.Due.{Due}
 use Rattle.rules.specs.Holds.{Model}
@@ -11,20 +11,19 @@ use Rattle.rules.specs.Calls.{setEvent, clearEvent, askEvent, newEntry, changeE
 use Rattle.rules.specs.Step.{step}
 use Rattle.rules.specs.Runs.{after}
 use Rattle.card.specs.declared.Card.{Card}
-use Rattle.card.specs.View.{view, stored}
+use Rattle.card.specs.View.{view}
 use Rattle.card.specs.Kinds.{Doing, is-admin, is-set, is-clear, is-change, is-enable, is-disable, is-release, is-proactive, Giving, is-new, is-allocate, is-command, Telling, is-ask, Naming, is-arrival, is-settled}
 use Rattle.card.specs.Reply.{changedBy, numberedBy, askedBy, arrivedBy}
-use Rattle.history.specs.Histories.{History, accepted}
 use Rattle.history.specs.Named.{isOutstanding}
 use Rattle.history.specs.Handed.{Seen, seen}
-use Rattle.history.proofs.Answered.{answers}
 use Rattle.history.proofs.Screen.{screen-is-right}
-use Rattle.bridge.specs.Watched.{entriesOf, callsOf, Next, done, given, told, named, Watched, more, callOf}
-use Rattle.bridge.specs.Promised.{Taken, Judged, Holds, Answers, positionOf, Orders, Shows, OnScreen, Promised}
-use Rattle.bridge.proofs.OnScreen.{next-says, same-view, watched-same, entries-seen}
+use Rattle.bridge.specs.Watched.{callsOf, done, given, told, named, Watched, more, callOf}
+use Rattle.bridge.specs.Promised.{Taken, positionOf, Orders, Shows, OnScreen, Promised}
+use Rattle.bridge.proofs.SameRuns.{same-view, watched-same, past-is}
 use Rattle.bridge.proofs.OnScreen as watched
-use Rattle.bridge.proofs.TablesNamed.{m, h, holds}
-use Rattle.bridge.proofs.CallsNamed.{judged, answers-so, orders, shows}
+use Rattle.bridge.proofs.TablesNamed.{m, holds}
+use Rattle.bridge.proofs.CallsNamed.{judged, orders, shows}
+use Rattle.bridge.proofs.Carried.{of-call, holds-of-it, judged-of-it, answers-of-it}
 
 -- DEMAND 1, every call is taken, whatever its inputs
 module _ (c : Card) where
@@ -58,43 +57,17 @@ module _ (c : Card) where
 
 -- a card that the public functions have left
 module _ {title : List ℕ} {l : List Seen} {c : Card} (w : Watched title l c) where
-  abbrev past : History
-  past = accepted (entriesOf l)
-
-  past-is : h title (callsOf l) ≡ past
-  past-is = ap accepted (sym (entries-seen title (callsOf l)) ∙ ap entriesOf (sym (watched-same w .seen)))
-
-  -- what holds after the calls holds of the card ..
-  of-card : (P : History → Card → Type 0) → P (h title (callsOf l)) (stored (m title (callsOf l))) → P past c
-  of-card P p = subst (λ (j : Card). P past j) (sym (watched-same w .holds)) (subst (λ (g : History). P g (stored (m title (callsOf l)))) past-is p)
-
-  -- .. and what holds of a call after them holds of the call as it is seen
-  of-call : (P : History → Card → Seen → Card → Type 0)
-      → ((x : Call) → P (h title (callsOf l)) (stored (m title (callsOf l))) (seen x (step (m title (callsOf l)) x)) (stored (step (m title (callsOf l)) x .after)))
-      → (t : Seen) (j : Card) → Next c t j → P past c t j
-  of-call P p t j n =
-      let x = callOf t in
-      let v : view c ≡ m title (callsOf l) = same-view (watched-same w) in
-      let as-seen : t ≡ seen x (step (m title (callsOf l)) x) = next-says n .seen ∙ ap (λ (v : Model). seen x (step v x)) v in
-      let as-left : j ≡ stored (step (m title (callsOf l)) x .after) = next-says n .card ∙ ap (λ (v : Model). stored (step v x .after)) v in
-      subst (λ (t : Seen). P past c t j) (sym as-seen)
-      (subst (λ (j : Card). P past c (seen x (step (m title (callsOf l)) x)) j) (sym as-left)
-      (of-card (λ (g : History) (d : Card). P g d (seen x (step (m title (callsOf l)) x)) (stored (step (m title (callsOf l)) x .after))) (p x)))
-
-  holds-of-it : Holds title past c
-  holds-of-it = of-card (Holds title) (holds title (callsOf l))
-
   on-screen : OnScreen title l c
   unfolding view viewDesk after
   on-screen =
       record {
-        menu = λ e. watched.screen-is-right w .menu (sym (holds-of-it .session) ∙ e);
-        codes = λ e. watched.screen-is-right w .codes (sym (holds-of-it .session) ∙ e);
+        menu = λ e. watched.screen-is-right w .menu (sym (holds-of-it w .session) ∙ e);
+        codes = λ e. watched.screen-is-right w .codes (sym (holds-of-it w .session) ∙ e);
         two-are-enough = λ s t u k j i a b d buffer other p q r idle room space.
             ap (λ (v : Model). v .desk .due) (same-view (watched-same (more d (more b (more a w)))))
             ∙ ap (λ (x : Call). due-after x (callOf t) (callOf u)) p
             ∙ ap₂ (due-after (systemCommand buffer)) q r
-            ∙ screen-is-right title (callsOf l) .two-are-enough buffer other (ap isOutstanding past-is ∙ sym (holds-of-it .outstanding) ∙ idle) room space;
+            ∙ screen-is-right title (callsOf l) .two-are-enough buffer other (ap isOutstanding (past-is w) ∙ sym (holds-of-it w .outstanding) ∙ idle) room space;
       }
     where
       due-after : Call → Call → Call → Due
@@ -105,10 +78,10 @@ module _ {title : List ℕ} {l : List Seen} {c : Card} (w : Watched title l c) w
   promised =
       record {
         taken = taken c;
-        judged = of-call (λ g d t j. Judged d t j) (judged title (callsOf l));
-        orders = of-call (λ g d t j. Orders (positionOf d) (viewRows (d .rows)) t (viewRows (j .rows))) (orders title (callsOf l));
-        holds = holds-of-it;
-        answers = of-call Answers (answers-so title (callsOf l));
-        shows = of-call (Shows title) (shows title (callsOf l));
+        judged = judged-of-it w;
+        orders = of-call w (λ g d t j. Orders (positionOf d) (viewRows (d .rows)) t (viewRows (j .rows))) (orders title (callsOf l));
+        holds = holds-of-it w;
+        answers = answers-of-it w;
+        shows = of-call w (Shows title) (shows title (callsOf l));
         screen = on-screen;
       }

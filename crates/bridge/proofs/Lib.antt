@@ -8,4 +8,5 @@ pub mod RoundTrip
 pub mod OnScreen
 pub mod TablesNamed
 pub mod CallsNamed
+pub mod Carried
 pub mod Final

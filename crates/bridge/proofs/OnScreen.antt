@@ -1,120 +1,21 @@
--- THE SCREEN IS RIGHT, over every card that the public functions have left. Assumes nothing.
-use Prim.Native.Nat.{ℕ, zero, suc}
-use mathlib.Core.Path.{_≡_, refl, sym, ap, ap₂, subst, _∙_}
-use mathlib.Core.List.{List, [], _∷_, map}
+-- THE SCREEN IS RIGHT, over every card that the public functions have left, with their calls as they were seen. Assumes nothing.
+use Prim.Native.Nat.{ℕ}
+use mathlib.Core.Path.{sym, subst}
+use mathlib.Core.List.{List}
 use Rattle.rules.specs.Holds.{Model, document}
-use Rattle.rules.specs.Calls.{Call, Answer}
-use Rattle.rules.specs.Refusals.{refusal}
-use Rattle.rules.specs.Step.{lent, written, outcome, step}
-use Rattle.rules.specs.Papers.{paperDone, paperGiven, paperTold, paperCalled}
 use Rattle.rules.specs.Runs.{after}
 use Rattle.card.specs.declared.Card.{Card}
-use Rattle.card.specs.declared.Changed.{Changed}
-use Rattle.card.specs.declared.Numbered.{Numbered}
-use Rattle.card.specs.declared.Asked.{Asked}
-use Rattle.card.specs.declared.Arrived.{Arrived}
-use Rattle.card.specs.View.{view, stored}
-use Rattle.card.specs.Kinds.{Doing, is-admin, is-set, is-clear, is-change, is-enable, is-disable, is-release, is-proactive, Telling, is-ask, Naming, is-arrival, is-settled}
-use Rattle.card.specs.Reply.{changedBy, numberedBy, askedBy, arrivedBy, madeBy}
-use Rattle.card.proofs.Left.{after-seen}
-use Rattle.card.proofs.OnPaper.{doing, giving, telling, naming}
-use Rattle.history.specs.Histories.{did, History, accepted}
-use Rattle.history.specs.Runs.{historyOf}
-use Rattle.history.specs.Handed.{Seen, seen as seenAs, seenOf}
+use Rattle.card.specs.View.{view}
+use Rattle.history.specs.Histories.{History, accepted}
+use Rattle.history.specs.Handed.{Seen, seenOf}
 use Rattle.history.specs.OnScreen.{ScreenRight}
 use Rattle.history.proofs.Screen as runs
-use Rattle.bridge.specs.Sequences.{Came}
-use Rattle.bridge.specs.Sequences as sequences
-use Rattle.bridge.specs.Watched.{leaving, entriesOf, callsOf, Next, Watched, done, given, told, named, made, more}
+use Rattle.bridge.specs.Watched.{entriesOf, callsOf, Watched}
+use Rattle.bridge.proofs.SameRuns.{same-view, watched-same, past-is}
 
--- a call that is lent no buffer leaves none
-no-buffer : (m : Model) (x : Call) → written m x ≡ [] → lent x ≡ [] → [] ≡ step m x .buffer
-unfolding step outcome
-no-buffer m x p q = go (refusal m x)
-  where
-    go : (n : ℕ) → [] ≡ outcome n m x .buffer
-    go zero = sym p
-    go (suc n) = sym q
-
-none-done : {x : Call} (m : Model) → Doing x → [] ≡ step m x .buffer
-unfolding written lent
-none-done m (is-admin x) = no-buffer m _ refl refl
-none-done m (is-set n v) = no-buffer m _ refl refl
-none-done m (is-clear n v) = no-buffer m _ refl refl
-none-done m (is-change n i help text) = no-buffer m _ refl refl
-none-done m (is-enable n i) = no-buffer m _ refl refl
-none-done m (is-disable n i) = no-buffer m _ refl refl
-none-done m (is-release n k) = no-buffer m _ refl refl
-none-done m (is-proactive x) = no-buffer m _ refl refl
-
-none-told : {x : Call} (m : Model) → Telling x → [] ≡ step m x .buffer
-unfolding written lent
-none-told m (is-ask n v) = no-buffer m _ refl refl
-
-none-named : {x : Call} (m : Model) → Naming x → [] ≡ step m x .buffer
-unfolding written lent
-none-named m (is-arrival x) = no-buffer m _ refl refl
-none-named m is-settled = no-buffer m _ refl refl
-
--- what a call was seen as, and the card after it, are what the rules say
-pub record Says (c : Card) (s : Seen) (k : Card) : Type 0 where
-  pub card : k ≡ stored (step (view c) (s .entry .call) .after)
-  pub seen : s ≡ seenAs (s .entry .call) (step (view c) (s .entry .call))
-
-says : {c k : Card} {x : Call} {a : Answer} {b : List ℕ} → k ≡ stored (step (view c) x .after) → a ≡ step (view c) x .answer → b ≡ step (view c) x .buffer
-    → Says c (leaving (did x a) b) k
-says {x = x} e p q = record { card = e; seen = ap₂ (λ (a : Answer) (b : List ℕ). leaving (did x a) b) p q }
-
-pub next-says : {c : Card} {s : Seen} {k : Card} → Next c s k → Says c s k
-unfolding changedBy numberedBy askedBy arrivedBy
-next-says {c} (done {x = x} d r e) =
-    says (ap (λ (r : Changed). r .card) e) (ap (λ (r : Changed). paperDone (r .answer)) e ∙ doing (view c) d) (none-done (view c) d)
-next-says {c} (given {x = x} d r exit e q) =
-    says (ap (λ (r : Numbered). r .card) e) (ap (λ (r : Numbered). paperGiven (r .answer)) e ∙ giving (view c) d) q
-next-says {c} (told {x = x} d r e) =
-    says (ap (λ (r : Asked). r .card) e) (ap (λ (r : Asked). paperTold (r .answer)) e ∙ telling (view c) d) (none-told (view c) d)
-next-says {c} (named {x = x} d r e) =
-    says (ap (λ (r : Arrived). r .card) e) (ap (λ (r : Arrived). paperCalled (r .answer)) e ∙ naming (view c) d) (none-named (view c) d)
-
--- the card holds the model after these calls, and they are seen as the rules say
-pub record Same (title : List ℕ) (l : List Seen) (c : Card) : Type 0 where
-  pub holds : c ≡ stored (after document title (callsOf l))
-  pub seen : l ≡ seenOf title (callsOf l)
-
-pub same-view : {title : List ℕ} {l : List Seen} {c : Card} → Same title l c → view c ≡ after document title (callsOf l)
-same-view {title} {l} same = ap view (same .holds) ∙ after-seen title (callsOf l)
-
-pub watched-same : {title : List ℕ} {l : List Seen} {c : Card} → Watched title l c → Same title l c
-unfolding madeBy after seenOf
-watched-same (made r e) = record { holds = ap (λ (r : Changed). r .card) e; seen = refl }
-watched-same {title} (more {l = l} {c = c} {s = s} n w) =
-    let same = watched-same w in
-    let said = next-says n in
-    let is : view c ≡ after document title (callsOf l) = same-view same in
-    record {
-      holds = said .card ∙ ap (λ (m : Model). stored (step m (s .entry .call) .after)) is;
-      seen = ap₂ (λ (t : Seen) (k : List Seen). t ∷ k) (said .seen ∙ ap (λ (m : Model). seenAs (s .entry .call) (step m (s .entry .call))) is) (same .seen);
-    }
-
--- these are the sequences of Sequences.antt, with the buffers
-pub watched-came : {title : List ℕ} {l : List Seen} {c : Card} → Watched title l c → Came title (entriesOf l) c
-watched-came (made r e) = sequences.made r e
-watched-came (more (done d r e) w) = sequences.done d r e (watched-came w)
-watched-came (more (given d r exit e q) w) = sequences.given d r e (watched-came w)
-watched-came (more (told d r e) w) = sequences.told d r e (watched-came w)
-watched-came (more (named d r e) w) = sequences.named d r e (watched-came w)
-
--- what was seen of a run has the run's history
-pub entries-seen : (title : List ℕ) (calls : List Call) → entriesOf (seenOf title calls) ≡ historyOf title calls
-unfolding seenOf historyOf
-entries-seen title [] = refl
-entries-seen title (c ∷ calls) = ap (λ (h : History). did c (step (after document title calls) c .answer) ∷ h) (entries-seen title calls)
-
--- EVERY CARD THAT THE PUBLIC FUNCTIONS HAVE LEFT, with their calls as they were seen: the screen is right.
 pub screen-is-right : {title : List ℕ} {l : List Seen} {c : Card} → Watched title l c → ScreenRight title l (view c) (accepted (entriesOf l))
 screen-is-right {title} {l} {c} w =
     let s = watched-same w in
-    let e : accepted (historyOf title (callsOf l)) ≡ accepted (entriesOf l) = ap accepted (sym (entries-seen title (callsOf l)) ∙ ap entriesOf (sym (s .seen))) in
     subst (λ (m : Model). ScreenRight title l m (accepted (entriesOf l))) (sym (same-view s))
     (subst (λ (k : List Seen). ScreenRight title k (after document title (callsOf l)) (accepted (entriesOf l))) (sym (s .seen))
-    (subst (λ (h : History). ScreenRight title (seenOf title (callsOf l)) (after document title (callsOf l)) h) e (runs.screen-is-right title (callsOf l))))
+    (subst (λ (h : History). ScreenRight title (seenOf title (callsOf l)) (after document title (callsOf l)) h) (past-is w) (runs.screen-is-right title (callsOf l))))

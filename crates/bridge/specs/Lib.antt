@@ -1,5 +1,4 @@
--- Sequences of calls as the card's own methods answer them, and with what they leave in the lent buffers.
-pub mod Sequences
+-- Calls as the card's own methods answer them, with what they leave in the lent buffers; and what is promised of every card that they leave.
 pub mod Watched
 pub mod OneShots
 pub mod Promised
