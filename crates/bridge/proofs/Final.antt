@@ -1,7 +1,7 @@
 -- THE FINAL THEOREM: what specs/Promised.antt says holds of every card that the public functions have left, and of their calls as they
 -- were seen. Assumes nothing.
 use Prim.Native.Nat.{ℕ}
-use mathlib.Core.Path.{refl, sym, ap, ap₂, _∙_}
+use mathlib.Core.Path.{refl, sym, ap, ap₂, subst, _∙_}
 use mathlib.Core.List.{List}
 use Rattle.rules.specs.declared.Due.{Due}
 use Rattle.rules.specs.Holds.{Model}
@@ -24,6 +24,7 @@ use Rattle.bridge.proofs.OnScreen as watched
 use Rattle.bridge.proofs.TablesNamed.{m, holds}
 use Rattle.bridge.proofs.CallsNamed.{judged, orders, shows}
 use Rattle.bridge.proofs.Carried.{of-call, holds-of-it, judged-of-it, answers-of-it}
+use Rattle.bridge.proofs.FiringOnce.{fires-once}
 
 -- DEMAND 1, every call is taken, whatever its inputs
 module _ (c : Card) where
@@ -82,6 +83,7 @@ module _ {title : List ℕ} {l : List Seen} {c : Card} (w : Watched title l c) w
         orders = of-call w (λ g d t j. Orders (positionOf d) (viewRows (d .rows)) t (viewRows (j .rows))) (orders title (callsOf l));
         holds = holds-of-it w;
         answers = answers-of-it w;
+        one-shots = λ n later moment stretch setting before e. fires-once title n later moment stretch setting before (subst (λ (k : List Seen). Watched title k c) e w);
         shows = of-call w (Shows title) (shows title (callsOf l));
         screen = on-screen;
       }

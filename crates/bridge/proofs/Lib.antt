@@ -9,4 +9,5 @@ pub mod OnScreen
 pub mod TablesNamed
 pub mod CallsNamed
 pub mod Carried
+pub mod FiringOnce
 pub mod Final

@@ -34,6 +34,7 @@ use Rattle.history.specs.Handed.{Seen, titleOf, handed, isEventList, codesHande
 use Rattle.history.specs.OnScreen.{leftDue, MenuRight}
 use Rattle.history.proofs.DeskNamed.{profileNamed}
 use Rattle.bridge.specs.Watched.{entriesOf, callOf, refusalOf, calledBy, Next}
+use Rattle.bridge.specs.OneShots.{SetAndSettled, FiresOnce}
 
 -- DEMAND 1. Every public call takes every input ..
 pub record Taken (c : Card) (x : Call) : Type 0 where
@@ -190,6 +191,9 @@ pub record Promised (asked : List ℕ) (l : List Seen) (c : Card) : Type 0 where
   -- demand 3
   pub holds : Holds asked (accepted (entriesOf l)) c
   pub answers : (s : Seen) (k : Card) → Next c s k → Answers (accepted (entriesOf l)) c s k
+  -- .. a one-shot, set and then settled, fires exactly once, wherever that stands in the calls (OneShots.antt)
+  pub one-shots : (n : ℕ) (later : List Seen) (moment : Seen) (stretch : List Seen) (setting : Seen) (before : List Seen)
+      → l ≡ later ++ (moment ∷ stretch ++ setting ∷ before) → SetAndSettled n later moment stretch setting before → FiresOnce n later moment stretch
   -- the screen; and with it demand 2, the menu command read back
   pub shows : (s : Seen) (k : Card) → Next c s k → Shows asked (accepted (entriesOf l)) c s k
   pub screen : OnScreen asked l c
