@@ -11,3 +11,4 @@ pub mod CallsNamed
 pub mod Carried
 pub mod FiringOnce
 pub mod Final
+pub mod Documented

@@ -2,3 +2,4 @@
 pub mod Watched
 pub mod OneShots
 pub mod Promised
+pub mod DocumentOne

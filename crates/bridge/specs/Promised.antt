@@ -158,8 +158,8 @@ pub record HandsOut (asked : List ℕ) (h : History) (c : Card) (s : Seen) (k : 
   pub read-back : c .desk .due .menu ≡ true → menuReader document (handed s) ≡ record { refusal = 0; menu = menuWanted asked h c }
   -- .. then the event list, if that is due, with the codes that the history wants ..
   pub then-events : c .desk .due .menu ≡ false → c .desk .due .events ≡ true → handed s ≡ eventBytes (codesNamed h)
-  -- .. else nothing ..
-  pub else-nothing : c .desk .due .menu ≡ false → c .desk .due .events ≡ false → handed s ≡ []
+  -- .. else nothing, and the card is as it was ..
+  pub else-nothing : c .desk .due .menu ≡ false → c .desk .due .events ≡ false → (handed s ≡ []) × (k ≡ c)
   -- .. writes it at the front of the buffer, leaves the rest, and clears its mark.
   pub at-the-front : s .buffer ≡ front (handed s) buffer
   pub clears : k .desk .due ≡ leftDue (c .desk .due)
