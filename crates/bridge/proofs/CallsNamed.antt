@@ -40,7 +40,7 @@ use Rattle.history.proofs.HandOuts.{handed-due}
 use Rattle.history.proofs.Screen.{screen-is-right}
 use Rattle.history.proofs.MenuOrder.{AlwaysInUse, rows-keep-their-order, new-row-at-its-place, new-row-last-for-0, new-row-last-behind-all}
 use Rattle.bridge.specs.Watched.{told, more, calledBy}
-use Rattle.bridge.specs.Promised.{Judged, Answers, positionOf, newRow, Orders, HandsOut, Shows}
+use Rattle.bridge.specs.Promised.{Judged, Handlers, Answers, positionOf, newRow, Orders, HandsOut, Shows}
 use Rattle.bridge.proofs.SameRuns.{next-says}
 use Rattle.bridge.proofs.DemandOne.{answer-is-the-lowest}
 use Rattle.bridge.proofs.TablesNamed.{m, h, c, rows-are, shown-is, holds}
@@ -99,9 +99,9 @@ module _ (title : List ℕ) (calls : List Call) (x : Call) where
   used n e ok =
       ap (λ (y : Call). hasOneShot n (h title (y ∷ calls))) e ∙ runs.one-shot-is-used-up title calls n (named-so e ok)
 
-  -- DEMAND 3, the calls; and the marks of demand 2
+  -- DEMAND 3, the calls
   pub answers-so : Answers (h title calls) (c title calls) s k
-  unfolding isDue isNamed arrivalIn hasOneShot answer arrivalAnswer Each
+  unfolding isDue isNamed arrivalIn hasOneShot Each
   answers-so =
       record {
         called = runs.event-names-each-once-in-order title calls x;
@@ -118,6 +118,13 @@ module _ (title : List ℕ) (calls : List Call) (x : Call) where
             ∙ waits title n (x ∷ []) calls ((λ ok. (f ok .0, f ok .1, λ e. sym (holds title calls .selectable n) ∙ f ok .2 e)), tt) (sym (now n) ∙ has);
         tells = λ n e v ok q kind.
             ap (λ (y : Call). step (m title calls) y .answer .says) q ∙ runs.asking-tells-what-is-named title calls n e v kind (named-so q ok);
+      }
+
+  -- DEMAND 2, the handlers
+  pub handlers : Handlers (h title calls) s
+  unfolding answer arrivalAnswer
+  handlers =
+      record {
         envelope-marks = λ bytes ok e. marks-are ok e ∙ ap (λ (b : Bool). envelopeMarks b (envelopeOf bytes)) (runs.outstanding-is-named title calls);
         profile-marks = λ bytes ok e. marks-are ok e;
         settled-marks = λ ok e. marks-are ok e;

@@ -18,13 +18,14 @@ use Rattle.history.specs.Named.{isOutstanding}
 use Rattle.history.specs.Handed.{Seen, seen}
 use Rattle.history.proofs.Screen.{screen-is-right}
 use Rattle.bridge.specs.Watched.{callsOf, done, given, told, named, Watched, more, callOf}
-use Rattle.bridge.specs.Promised.{Taken, positionOf, Orders, Shows, OnScreen, Promised}
+use Rattle.bridge.specs.Promised.{Taken, Handlers, positionOf, Orders, Shows, OnScreen, Promised}
 use Rattle.bridge.proofs.SameRuns.{same-view, watched-same, past-is}
 use Rattle.bridge.proofs.OnScreen as watched
 use Rattle.bridge.proofs.TablesNamed.{m, holds}
-use Rattle.bridge.proofs.CallsNamed.{judged, orders, shows}
+use Rattle.bridge.proofs.CallsNamed.{handlers, judged, orders, shows}
 use Rattle.bridge.proofs.Carried.{of-call, holds-of-it, judged-of-it, answers-of-it}
 use Rattle.bridge.proofs.FiringOnce.{fires-once}
+use Rattle.bridge.proofs.Documented.{already}
 
 -- DEMAND 1, every call is taken, whatever its inputs
 module _ (c : Card) where
@@ -80,10 +81,12 @@ module _ {title : List ℕ} {l : List Seen} {c : Card} (w : Watched title l c) w
       record {
         taken = taken c;
         judged = judged-of-it w;
+        handlers = of-call w (λ g d t j. Handlers g t) (handlers title (callsOf l));
         orders = of-call w (λ g d t j. Orders (positionOf d) (viewRows (d .rows)) t (viewRows (j .rows))) (orders title (callsOf l));
+        shows = of-call w (Shows title) (shows title (callsOf l));
         holds = holds-of-it w;
         answers = answers-of-it w;
         one-shots = λ n later moment stretch setting before e. fires-once title n later moment stretch setting before (subst (λ (k : List Seen). Watched title k c) e w);
-        shows = of-call w (Shows title) (shows title (callsOf l));
         screen = on-screen;
+        already = already w;
       }

@@ -10,5 +10,5 @@ pub mod TablesNamed
 pub mod CallsNamed
 pub mod Carried
 pub mod FiringOnce
-pub mod Final
 pub mod Documented
+pub mod Final

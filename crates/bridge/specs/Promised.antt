@@ -35,6 +35,7 @@ use Rattle.history.specs.OnScreen.{leftDue, MenuRight}
 use Rattle.history.proofs.DeskNamed.{profileNamed}
 use Rattle.bridge.specs.Watched.{entriesOf, callOf, refusalOf, calledBy, Next}
 use Rattle.bridge.specs.OneShots.{SetAndSettled, FiresOnce}
+use Rattle.bridge.specs.DocumentOne.{Already}
 
 -- DEMAND 1. Every public call takes every input ..
 pub record Taken (c : Card) (x : Call) : Type 0 where
@@ -58,6 +59,59 @@ pub record Judged (c : Card) (s : Seen) (k : Card) : Type 0 where
   -- No second answer, buffer or card meets the contract of the same call.
   pub no-second : (t : Seen) (j : Card) → Next c t j → callOf t ≡ callOf s → (t ≡ s) × (j ≡ k)
 
+-- DEMAND 2. Registration and triggering order stand with demand 3 (registered, called). HANDLER AVAILABILITY: the proactive handler while
+-- no command is outstanding, the envelope handler with envelopes only, the response handler with call control and unrecognized ones.
+pub record Handlers (h : History) (s : Seen) : Type 0 where
+  pub envelope-marks : (bytes : List ℕ) → refusalOf s ≡ 0 → callOf s ≡ arrival (envelope bytes) → s .entry .answer .marks ≡ envelopeMarks (isOutstanding h) (envelopeOf bytes)
+  pub profile-marks : (bytes : List ℕ) → refusalOf s ≡ 0 → callOf s ≡ arrival (profile bytes) → s .entry .answer .marks ≡ proactiveOnly
+  pub settled-marks : refusalOf s ≡ 0 → callOf s ≡ settled → s .entry .answer .marks ≡ proactiveOnly
+
+-- MENU ORDER: the position that applet n requested for its next entry, and the row that this entry makes.
+abbrev pub positionOf : Card → (applet : ℕ) → ℕ
+positionOf c n = nextPair (applet (view c .tables) n) .position
+
+abbrev pub newRow : Seen → (applet : ℕ) (help : Bool) (text : List ℕ) → Row
+newRow s n help text = record { identifier = s .entry .answer .number; owner = n; text = text; help = help; enabled = true }
+
+-- The rows before and after a call, with the positions that were requested.
+pub record Orders (position : ℕ → ℕ) (before : List Row) (s : Seen) (after : List Row) : Type 0 where
+  -- A new row stands at its place: position p from 1 to the row count shifts rows p and after down by one ..
+  pub at-its-place : (n : ℕ) (help : Bool) (text : List ℕ) → callOf s ≡ entry (newEntry n help text) → refusalOf s ≡ 0
+      → 1 ≤ position n → position n ≤ length before → after ≡ take (position n - 1) before ++ newRow s n help text ∷ drop (position n - 1) before
+  -- .. 0, or more than the row count, means last.
+  pub last-for-0 : (n : ℕ) (help : Bool) (text : List ℕ) → callOf s ≡ entry (newEntry n help text) → refusalOf s ≡ 0
+      → position n ≡ 0 → after ≡ before ++ newRow s n help text ∷ []
+  pub last-behind : (n : ℕ) (help : Bool) (text : List ℕ) → callOf s ≡ entry (newEntry n help text) → refusalOf s ≡ 0
+      → length before < position n → after ≡ before ++ newRow s n help text ∷ []
+  -- Whatever the call, the rows that stay keep their order among each other.
+  pub kept : (p : ℕ → Bool) → ((i : ℕ) → p i ≡ true → inUse i after ≡ true) → ((i : ℕ) → p i ≡ true → inUse i before ≡ true)
+      → keep p (map (λ (r : Row). r .identifier) after) ≡ keep p (map (λ (r : Row). r .identifier) before)
+
+-- SYSTEM COMMANDS. The menu that the history wants: the title, and the enabled rows of selectable applets in the menu list's order.
+abbrev pub menuWanted : (asked : List ℕ) → History → Card → Menu
+menuWanted asked h c = menuOf (titleOf asked) (keep (isShown h) (viewRows (c .rows)))
+
+-- An accepted system command ..
+pub record HandsOut (asked : List ℕ) (h : History) (c : Card) (s : Seen) (k : Card) (buffer : List ℕ) : Type 0 where
+  -- .. hands out the menu first, if it is due: the one that the history wants, and read back it is that very menu ..
+  pub menu-first : c .desk .due .menu ≡ true → handed s ≡ menuBytes (menuWanted asked h c)
+  pub read-back : c .desk .due .menu ≡ true → menuReader document (handed s) ≡ record { refusal = 0; menu = menuWanted asked h c }
+  -- .. then the event list, if that is due, with the codes that the history wants ..
+  pub then-events : c .desk .due .menu ≡ false → c .desk .due .events ≡ true → handed s ≡ eventBytes (codesNamed h)
+  -- .. else nothing, and the card is as it was ..
+  pub else-nothing : c .desk .due .menu ≡ false → c .desk .due .events ≡ false → (handed s ≡ []) × (k ≡ c)
+  -- .. writes it at the front of the buffer, leaves the rest, and clears its mark.
+  pub at-the-front : s .buffer ≡ front (handed s) buffer
+  pub clears : k .desk .due ≡ leftDue (c .desk .due)
+
+-- What the calls do to the screen.
+pub record Shows (asked : List ℕ) (h : History) (c : Card) (s : Seen) (k : Card) : Type 0 where
+  pub hands-out : (buffer : List ℕ) → refusalOf s ≡ 0 → callOf s ≡ systemCommand buffer → HandsOut asked h c s k buffer
+  -- It is accepted if nothing is outstanding and the buffer has 256 bytes.
+  pub accepts : (buffer : List ℕ) → callOf s ≡ systemCommand buffer → c .desk .outstanding ≡ false → 256 ≤ length buffer → refusalOf s ≡ 0
+  -- No applet changes the screen: what an accepted send gives the terminal is neither a menu nor an event list.
+  pub sent : (n : ℕ) (bytes : List ℕ) → refusalOf s ≡ 0 → callOf s ≡ proactive (send n bytes) → (isMenu document bytes ≡ false) × (isEventList bytes ≡ false)
+
 -- DEMAND 3. The card's tables, after any calls, refused ones included, with this history of the accepted ones.
 pub record Holds (asked : List ℕ) (h : History) (c : Card) : Type 0 where
   -- The menu list holds one row for each accepted menu entry whose applet has not been deleted since, and no other: whatever is asked
@@ -69,8 +123,8 @@ pub record Holds (asked : List ℕ) (h : History) (c : Card) : Type 0 where
   pub apart : (i : ℕ) → count (hasIdentifier i) (viewRows (c .rows)) ≤ 1
   -- .. and the row with an identifier has the owner, text, help mark and enabled mark that the history names.
   pub row : (i : ℕ) (none : Row) → first (hasIdentifier i) none (viewRows (c .rows)) ≡ first (hasIdentifier i) none (rowsNamed h)
-  -- The menu command, of the title and the enabled rows of selectable applets, always fits in 250 bytes.
-  pub fits : length (menuBytes (menuOf (titleOf asked) (keep (isShown h) (viewRows (c .rows))))) ≤ 250
+  -- The menu command always fits in 250 bytes.
+  pub fits : length (menuBytes (menuWanted asked h c)) ≤ 250
   -- Each timer has at most one owner, the one that the history names (0: nobody) ..
   pub timer : (k : ℕ) → ownerOf (c .bank .owner) k ≡ timerOwner k h
   pub one-owner : (k n o : ℕ) → 1 ≤ n → 1 ≤ o → ownsTimer k n h ≡ true → ownsTimer k o h ≡ true → n ≡ o
@@ -83,8 +137,8 @@ pub record Holds (asked : List ℕ) (h : History) (c : Card) : Type 0 where
   pub present : (n : ℕ) → has? (c .roll .present) n ≡ isPresent n h
   pub selectable : (n : ℕ) → has? (c .selectable) n ≡ isSelectable n h
   pub applet-count : c .roll .count ≡ count (λ n. isPresent n h) oneToEight
-  -- The title is the one that the card was made with, or empty where that was too long; the profile, whether a session has begun and a command is outstanding are those
-  -- that the history names.
+  -- The title is the one asked for when the card was made, or empty where that was too long; the profile, whether a session has begun
+  -- and whether a command is outstanding are what the history names.
   pub title-kept : length asked ≤ 20 → titleOf asked ≡ asked
   pub title-long : 20 < length asked → titleOf asked ≡ []
   pub title : take (c .desk .«title_len») (c .desk .title) ≡ titleOf asked
@@ -120,57 +174,8 @@ pub record Answers (h : History) (c : Card) (s : Seen) (k : Card) : Type 0 where
       → has? (getD (c .registered) handlerAvailable 0) n ≡ true → has? (getD (k .registered) handlerAvailable 0) n ≡ true
   -- What is asked of a registration is told as the history names it.
   pub tells : (n e : ℕ) (v : ℤ) → refusalOf s ≡ 0 → callOf s ≡ event (askEvent n v) → kindOf v ≡ Event e → s .entry .answer .says ≡ isRegistered n e h
-  -- DEMAND 2, handler availability: the proactive handler while no command is outstanding, the envelope handler with envelopes only,
-  -- the response handler with call control and unrecognized ones.
-  pub envelope-marks : (bytes : List ℕ) → refusalOf s ≡ 0 → callOf s ≡ arrival (envelope bytes) → s .entry .answer .marks ≡ envelopeMarks (isOutstanding h) (envelopeOf bytes)
-  pub profile-marks : (bytes : List ℕ) → refusalOf s ≡ 0 → callOf s ≡ arrival (profile bytes) → s .entry .answer .marks ≡ proactiveOnly
-  pub settled-marks : refusalOf s ≡ 0 → callOf s ≡ settled → s .entry .answer .marks ≡ proactiveOnly
 
--- DEMAND 2, MENU ORDER. The position that applet n requested for its next entry, and the row that this entry makes.
-abbrev pub positionOf : Card → (applet : ℕ) → ℕ
-positionOf c n = nextPair (applet (view c .tables) n) .position
-
-abbrev pub newRow : Seen → (applet : ℕ) (help : Bool) (text : List ℕ) → Row
-newRow s n help text = record { identifier = s .entry .answer .number; owner = n; text = text; help = help; enabled = true }
-
--- The rows before and after a call, with the positions that were requested.
-pub record Orders (position : ℕ → ℕ) (before : List Row) (s : Seen) (after : List Row) : Type 0 where
-  -- A new row stands at its place: position p from 1 to the row count shifts rows p and after down by one ..
-  pub at-its-place : (n : ℕ) (help : Bool) (text : List ℕ) → callOf s ≡ entry (newEntry n help text) → refusalOf s ≡ 0
-      → 1 ≤ position n → position n ≤ length before → after ≡ take (position n - 1) before ++ newRow s n help text ∷ drop (position n - 1) before
-  -- .. 0, or more than the row count, means last.
-  pub last-for-0 : (n : ℕ) (help : Bool) (text : List ℕ) → callOf s ≡ entry (newEntry n help text) → refusalOf s ≡ 0
-      → position n ≡ 0 → after ≡ before ++ newRow s n help text ∷ []
-  pub last-behind : (n : ℕ) (help : Bool) (text : List ℕ) → callOf s ≡ entry (newEntry n help text) → refusalOf s ≡ 0
-      → length before < position n → after ≡ before ++ newRow s n help text ∷ []
-  -- Whatever the call, the rows that stay keep their order among each other.
-  pub kept : (p : ℕ → Bool) → ((i : ℕ) → p i ≡ true → inUse i after ≡ true) → ((i : ℕ) → p i ≡ true → inUse i before ≡ true)
-      → keep p (map (λ (r : Row). r .identifier) after) ≡ keep p (map (λ (r : Row). r .identifier) before)
-
--- THE SCREEN. The menu that the history wants: the title, and the enabled rows of selectable applets in the menu list's order.
-abbrev pub menuWanted : (asked : List ℕ) → History → Card → Menu
-menuWanted asked h c = menuOf (titleOf asked) (keep (isShown h) (viewRows (c .rows)))
-
--- An accepted system command ..
-pub record HandsOut (asked : List ℕ) (h : History) (c : Card) (s : Seen) (k : Card) (buffer : List ℕ) : Type 0 where
-  -- .. hands out the menu first, if it is due: the one that the history wants, and read back it is that very menu ..
-  pub menu-first : c .desk .due .menu ≡ true → handed s ≡ menuBytes (menuWanted asked h c)
-  pub read-back : c .desk .due .menu ≡ true → menuReader document (handed s) ≡ record { refusal = 0; menu = menuWanted asked h c }
-  -- .. then the event list, if that is due, with the codes that the history wants ..
-  pub then-events : c .desk .due .menu ≡ false → c .desk .due .events ≡ true → handed s ≡ eventBytes (codesNamed h)
-  -- .. else nothing, and the card is as it was ..
-  pub else-nothing : c .desk .due .menu ≡ false → c .desk .due .events ≡ false → (handed s ≡ []) × (k ≡ c)
-  -- .. writes it at the front of the buffer, leaves the rest, and clears its mark.
-  pub at-the-front : s .buffer ≡ front (handed s) buffer
-  pub clears : k .desk .due ≡ leftDue (c .desk .due)
-
-pub record Shows (asked : List ℕ) (h : History) (c : Card) (s : Seen) (k : Card) : Type 0 where
-  pub hands-out : (buffer : List ℕ) → refusalOf s ≡ 0 → callOf s ≡ systemCommand buffer → HandsOut asked h c s k buffer
-  -- It is accepted if nothing is outstanding and the buffer has 256 bytes.
-  pub accepts : (buffer : List ℕ) → callOf s ≡ systemCommand buffer → c .desk .outstanding ≡ false → 256 ≤ length buffer → refusalOf s ≡ 0
-  -- No applet changes the screen: what an accepted send gives the terminal is neither a menu nor an event list.
-  pub sent : (n : ℕ) (bytes : List ℕ) → refusalOf s ≡ 0 → callOf s ≡ proactive (send n bytes) → (isMenu document bytes ≡ false) × (isEventList bytes ≡ false)
-
+-- THE SCREEN.
 pub record OnScreen (asked : List ℕ) (l : List Seen) (c : Card) : Type 0 where
   -- IN A SESSION, UNLESS THE MENU IS DUE, the menu that the terminal was last handed since the profile, read back, is exactly what the
   -- history wants (MenuRight, crates/history/specs/OnScreen.antt); unless the event list is due, so are the codes last handed.
@@ -186,14 +191,16 @@ pub record Promised (asked : List ℕ) (l : List Seen) (c : Card) : Type 0 where
   -- demand 1
   pub taken : (x : Call) → Taken c x
   pub judged : (s : Seen) (k : Card) → Next c s k → Judged c s k
-  -- demand 2: the menu order; and with demand 3 registration, triggering order and handler availability
+  -- demand 2
+  pub handlers : (s : Seen) (k : Card) → Next c s k → Handlers (accepted (entriesOf l)) s
   pub orders : (s : Seen) (k : Card) → Next c s k → Orders (positionOf c) (viewRows (c .rows)) s (viewRows (k .rows))
+  pub shows : (s : Seen) (k : Card) → Next c s k → Shows asked (accepted (entriesOf l)) c s k
   -- demand 3
   pub holds : Holds asked (accepted (entriesOf l)) c
   pub answers : (s : Seen) (k : Card) → Next c s k → Answers (accepted (entriesOf l)) c s k
   -- .. a one-shot, set and then settled, fires exactly once, wherever that stands in the calls (OneShots.antt)
   pub one-shots : (n : ℕ) (later : List Seen) (moment : Seen) (stretch : List Seen) (setting : Seen) (before : List Seen)
       → l ≡ later ++ (moment ∷ stretch ++ setting ∷ before) → SetAndSettled n later moment stretch setting before → FiresOnce n later moment stretch
-  -- the screen; and with it demand 2, the menu command read back
-  pub shows : (s : Seen) (k : Card) → Next c s k → Shows asked (accepted (entriesOf l)) c s k
+  -- the screen; and what is so already (DocumentOne.antt)
   pub screen : OnScreen asked l c
+  pub already : (s : Seen) (k : Card) → Next c s k → Already (accepted (entriesOf l)) c s k
