@@ -2,6 +2,7 @@
 use Prim.Native.Nat.{ℕ, _-_, _≤_, _<_}
 use native.Mathlib.Omega.{arith}
 use mathlib.Core.Path.{_≡_, refl, sym, ap, ap₂, subst, _∙_}
+use mathlib.Core.Logic.{_⊎_, inl, inr}
 use mathlib.Core.Bool.{Bool, false}
 use mathlib.Core.List.{List, [], _∷_, _++_}
 use lib.ListN.{length, take, drop, getD}
@@ -16,18 +17,16 @@ use Rattle.rules.specs.Envelopes.{envelopeOf}
 use Rattle.rules.specs.Rows.{nextPair}
 use Rattle.rules.specs.Commands.{Menu, menuOf, menuBytes}
 use Rattle.rules.specs.Arrivals.{Arrival, envelopeMarks}
-use Rattle.rules.specs.Calls.{Call, Answer, Outcome, entry, settled, systemCommand}
+use Rattle.rules.specs.Calls.{Call, Answer, Outcome, entry, settled, systemCommand, newEntry}
 use Rattle.rules.specs.Desk.{dueCommand}
 use Rattle.rules.specs.Step.{arrivalAnswer, answer, written, front, outcome, step}
 use Rattle.rules.specs.Beside.{ReadOutcome, menuReader}
 use Rattle.rules.specs.Runs.{after}
 use Rattle.rules.proofs.Refused.{refused}
 use Rattle.rules.proofs.DueMarks.{first-due}
-use Rattle.applets.specs.ByNumber.{at}
 use Rattle.card.specs.declared.Card.{Card}
 use Rattle.card.specs.View.{stored}
 use Rattle.card.proofs.Left.{after-seen}
-use Rattle.history.specs.Histories.{accepted}
 use Rattle.history.specs.Named.{isSelectable, hasOneShot}
 use Rattle.history.specs.Called.{isNamed, isDue, arrivalIn}
 use Rattle.history.specs.Handed.{Seen, seen, seenOf, handed, titleOf, isShown}
@@ -39,7 +38,7 @@ use Rattle.history.proofs.DeskNamed.{title-is-the-one-given, hands-out-nothing}
 use Rattle.history.proofs.HandOuts.{handed-due}
 use Rattle.history.proofs.Screen.{screen-is-right}
 use Rattle.history.proofs.MenuOrder.{AlwaysInUse, rows-keep-their-order, new-row-at-its-place, new-row-last-for-0, new-row-last-behind-all}
-use Rattle.bridge.specs.Watched.{told, more, calledBy}
+use Rattle.bridge.specs.Watched.{calledBy}
 use Rattle.bridge.specs.Promised.{Judged, Handlers, Answers, positionOf, newRow, Orders, HandsOut, Shows}
 use Rattle.bridge.proofs.SameRuns.{next-says}
 use Rattle.bridge.proofs.DemandOne.{answer-is-the-lowest}
@@ -69,9 +68,9 @@ module _ (title : List ℕ) (calls : List Call) (x : Call) where
       record {
         holds = rw (after-seen title calls) (answer-is-the-lowest (m title calls) x .holds);
         lowest = rw (after-seen title calls) (answer-is-the-lowest (m title calls) x .least);
-        leaves-card = λ n e. ap stored (runs.refused-call-leaves-the-card title calls x n e);
-        leaves-buffer = λ n e. ap (λ (o : Outcome). o .buffer) (refused (m title calls) x n (refuses (m title calls) x n e));
-        number-only = λ n e. ap (λ (o : Outcome). o .answer) (refused (m title calls) x n (refuses (m title calls) x n e));
+        refused = λ n e.
+            let o = refused (m title calls) x n (refuses (m title calls) x n e) in
+            (ap stored (runs.refused-call-leaves-the-card title calls x n e), ap (λ (o : Outcome). o .buffer) o, ap (λ (o : Outcome). o .answer) o);
         no-second = λ t j n e. (
           next-says n .seen ∙ ap₂ (λ (v : Model) (y : Call). seen y (step v y)) (after-seen title calls) e,
           next-says n .card ∙ ap₂ (λ (v : Model) (y : Call). stored (step v y .after)) (after-seen title calls) e,
@@ -143,9 +142,7 @@ module _ (title : List ℕ) (calls : List Call) (x : Call) where
         at-its-place = λ n help text e.
             subst (λ (y : Call). Accepts y → 1 ≤ position n → position n ≤ length before → rowsAfter y ≡ take (position n - 1) before ++ newRow (seenBy y) n help text ∷ drop (position n - 1) before)
             (sym e) (new-row-at-its-place (m title calls) n help text);
-        last-for-0 = λ n help text e. subst (λ (y : Call). Accepts y → position n ≡ 0 → rowsAfter y ≡ before ++ newRow (seenBy y) n help text ∷ []) (sym e) (new-row-last-for-0 (m title calls) n help text);
-        last-behind = λ n help text e.
-            subst (λ (y : Call). Accepts y → length before < position n → rowsAfter y ≡ before ++ newRow (seenBy y) n help text ∷ []) (sym e) (new-row-last-behind-all (m title calls) n help text);
+        last = λ n help text e. subst (λ (y : Call). Accepts y → Last n → rowsAfter y ≡ before ++ newRow (seenBy y) n help text ∷ []) (sym e) (last-one n help text);
         kept = λ p a b. rows-keep-their-order p title (x ∷ []) calls (a, b);
       })
     where
@@ -163,6 +160,14 @@ module _ (title : List ℕ) (calls : List Call) (x : Call) where
 
       rowsAfter : Call → List Row
       rowsAfter y = step (m title calls) y .after .tables .rows
+
+      Last : ℕ → Type 0
+      Last n = (position n ≡ 0) ⊎ (length before < position n)
+
+      last-one : (n : ℕ) (help : Bool) (text : List ℕ) → Accepts (entry (newEntry n help text)) → Last n
+          → rowsAfter (entry (newEntry n help text)) ≡ before ++ newRow (seenBy (entry (newEntry n help text))) n help text ∷ []
+      last-one n help text ok (inl z) = new-row-last-for-0 (m title calls) n help text ok z
+      last-one n help text ok (inr g) = new-row-last-behind-all (m title calls) n help text ok g
 
   -- THE SCREEN, by a call
   pub shows : Shows title (h title calls) (c title calls) s k

@@ -1,10 +1,9 @@
 -- What specs/DocumentOne.antt says holds of every card that the public functions have left. Assumes nothing.
-use Prim.Native.Nat.{ℕ, _≤_, _<_}
-use mathlib.Core.Path.{_≡_, sym, ap, _∙_}
+use Prim.Native.Nat.{ℕ}
+use mathlib.Core.Path.{_≡_, ap, _∙_}
 use mathlib.Core.List.{List}
-use lib.ListN.{length}
 use Rattle.rules.specs.Holds.{document}
-use Rattle.rules.specs.Calls.{Call, Outcome}
+use Rattle.rules.specs.Calls.{Call, Outcome, only}
 use Rattle.rules.specs.Step.{step}
 use Rattle.rules.specs.Beside.{FreshOutcome, freshCard}
 use Rattle.runs.proofs.AlreadySo.{nothingDone}
@@ -13,7 +12,7 @@ use Rattle.card.specs.declared.Changed.{Changed}
 use Rattle.card.specs.View.{stored}
 use Rattle.card.specs.Reply.{madeBy, doneOf}
 use Rattle.history.specs.Histories.{accepted}
-use Rattle.history.specs.Handed.{Seen, seen}
+use Rattle.history.specs.Handed.{Seen, seen, titleOf}
 use Rattle.history.proofs.DeskNamed.{fresh-with-its-title, fresh-refused-is-fresh}
 use Rattle.history.proofs.DoneAlready.{locked-already, selectable-already, registered-already, unregistered-already, enabled-already, disabled-already}
 use Rattle.bridge.specs.Watched.{entriesOf, callsOf, Next, Watched}
@@ -25,9 +24,12 @@ pub made-so : (asked : List ℕ) (r : Changed) → r ≡ madeBy (freshCard docum
 unfolding madeBy doneOf
 made-so asked r e =
     record {
-      with-title = λ i. ap (λ (r : Changed). r .answer) (e ∙ ap madeBy (fresh-with-its-title document asked i));
-      title-refused = λ i. ap (λ (r : Changed). r .answer) (e ∙ ap madeBy (fresh-refused-is-fresh document asked i));
+      with-title = λ i. both (fresh-with-its-title document asked i);
+      title-refused = λ i. both (fresh-refused-is-fresh document asked i);
     }
+  where
+    both : {o : FreshOutcome} → freshCard document asked ≡ o → (r .answer ≡ doneOf (only (o .refusal))) × (titleOf asked ≡ o .card .desk .title)
+    both q = (ap (λ (r : Changed). r .answer) (e ∙ ap madeBy q), ap (λ (o : FreshOutcome). o .card .desk .title) q)
 
 module _ (title : List ℕ) (calls : List Call) (x : Call) where
   so : (y : Call) → x ≡ y → step (m title calls) y ≡ nothingDone (m title calls)

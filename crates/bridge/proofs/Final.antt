@@ -19,7 +19,7 @@ use Rattle.history.specs.Handed.{Seen, seen}
 use Rattle.history.proofs.Screen.{screen-is-right}
 use Rattle.bridge.specs.Watched.{callsOf, done, given, told, named, Watched, more, callOf}
 use Rattle.bridge.specs.Promised.{Taken, Handlers, positionOf, Orders, Shows, OnScreen, Promised}
-use Rattle.bridge.proofs.SameRuns.{same-view, watched-same, past-is}
+use Rattle.bridge.proofs.SameRuns.{same-view, watched-left, watched-same, past-is}
 use Rattle.bridge.proofs.OnScreen as watched
 use Rattle.bridge.proofs.TablesNamed.{m, holds}
 use Rattle.bridge.proofs.CallsNamed.{handlers, judged, orders, shows}
@@ -79,6 +79,7 @@ module _ {title : List ℕ} {l : List Seen} {c : Card} (w : Watched title l c) w
   pub promised : Promised title l c
   promised =
       record {
+        left = watched-left w;
         taken = taken c;
         judged = judged-of-it w;
         handlers = of-call w (λ g d t j. Handlers g t) (handlers title (callsOf l));

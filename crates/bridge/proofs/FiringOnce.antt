@@ -64,7 +64,7 @@ module _ (title : List ℕ) (n : ℕ) where
     where
       go : (r : ℕ) → refusalOf s ≡ r → Has (a ++ b) ≡ false → Has (s ∷ a ++ b) ≡ false
       go zero ok j = ap (hasOneShot n) (accepted-more (callOf s) (s .entry .answer) (entriesOf (a ++ b)) ok) ∙ none-set title n _ _ (e .0 ok) j
-      go (suc r) no-way j = sym (in-is (more x w)) ∙ ap In (judged-of-it w s k x .leaves-card r no-way) ∙ in-is w ∙ j
+      go (suc r) no-way j = sym (in-is (more x w)) ∙ ap In (judged-of-it w s k x .refused r no-way .0) ∙ in-is w ∙ j
 
   -- a settled moment does not call the applet if it has none, or is locked
   silent : {l : List Seen} {c k : Card} {s : Seen} → Watched title l c → Next c s k
@@ -74,7 +74,7 @@ module _ (title : List ℕ) (n : ℕ) where
     where
       go : (r : ℕ) → refusalOf s ≡ r → times n (calledBy s) ≡ 0
       go zero ok = answers-of-it w s k x .fires n ok e ∙ ap (λ (b : Bool). if b then 1 else 0) (f ok e)
-      go (suc r) no-way = ap (λ (a : Answer). times n (a .called)) (judged-of-it w s k x .number-only r no-way)
+      go (suc r) no-way = ap (λ (a : Answer). times n (a .called)) (judged-of-it w s k x .refused r no-way .2)
 
   before-it : (a b : List Seen) {c : Card} → Watched title (a ++ b) c → Each (Spares n) a b → Every (Silent n) a
   unfolding Each Every

@@ -1,5 +1,5 @@
 -- Demand 1 in one place; no second answer; the menu command of a card read back; the sequences that the promises over all runs
--- speak of are those of the card's calls; and the screen is right.
+-- speak of are those of the card's calls; the screen is right; and the final theorem, over the struct, in its parts and whole.
 pub mod DemandOne
 pub mod OneAnswer
 pub mod OneMenu

@@ -15,8 +15,7 @@ use Rattle.rules.specs.Holds.{Row, Applet, Model, document}
 use Rattle.rules.specs.Held.{viewRows, storedRows, viewDesk, storedDesk}
 use Rattle.rules.specs.Applets.{nobody, present, applet}
 use Rattle.rules.specs.Commands.{shownMenu, menuOf, menuBytes}
-use Rattle.rules.specs.Calls.{Call, timer}
-use Rattle.rules.specs.Beside.{FreshOutcome}
+use Rattle.rules.specs.Calls.{Call}
 use Rattle.rules.specs.Runs.{after}
 use Rattle.rules.proofs.Held.{rows-back, desk-back}
 use Rattle.runs.proofs.Looked.{absent-nobody}
@@ -27,9 +26,8 @@ use Rattle.card.specs.View.{stored}
 use Rattle.history.specs.Histories.{History}
 use Rattle.history.specs.Handed.{titleOf, isShown}
 use Rattle.history.proofs.Agrees.{ground}
-use Rattle.history.proofs.Answered.{passes}
 use Rattle.history.proofs.Promises as runs
-use Rattle.history.proofs.DeskNamed.{fresh-with-its-title, fresh-refused-is-fresh, title-is-the-one-given, profile-is-the-last-one}
+use Rattle.history.proofs.DeskNamed.{title-is-the-one-given, profile-is-the-last-one}
 use Rattle.history.proofs.Shown.{rows-shown}
 use Rattle.bridge.specs.Promised.{Holds}
 
@@ -102,8 +100,6 @@ module _ (title : List ℕ) (calls : List Call) where
         selectable = λ n.
             in-set (λ (k : ℕ). at (m .tables .applets) k .selectable) n (λ o. ap (λ (x : Applet). x .selectable) (outside n o)) ∙ runs.agree title calls .tables .selectability n;
         applet-count = runs.applets-are-as-many title calls;
-        title-kept = λ e. ap (λ (o : FreshOutcome). o .card .desk .title) (fresh-with-its-title document title e);
-        title-long = λ e. ap (λ (o : FreshOutcome). o .card .desk .title) (fresh-refused-is-fresh document title e);
         title = ap (λ d. d .title) (desk-back (m .desk)) ∙ title-is-the-one-given title calls;
         profile = profile-is-the-last-one title calls;
         session = runs.session-is-named title calls;

@@ -2,7 +2,7 @@
 use Prim.Native.Nat.{ℕ, _≤_, _<_}
 use mathlib.Core.Path.{_≡_}
 use mathlib.Core.Bool.{true, false, _&&_}
-use mathlib.Core.List.{List}
+use mathlib.Core.List.{List, []}
 use lib.ListN.{length}
 use lib.IntN.{ℤ}
 use Rattle.lists.specs.Tests.{_==_}
@@ -18,13 +18,13 @@ use Rattle.card.specs.declared.Card.{Card}
 use Rattle.card.specs.declared.Changed.{Changed}
 use Rattle.history.specs.Histories.{History}
 use Rattle.history.specs.Named.{isPresent, isSelectable, isRegistered, rowsNamed}
-use Rattle.history.specs.Handed.{Seen}
+use Rattle.history.specs.Handed.{Seen, titleOf}
 use Rattle.bridge.specs.Watched.{callOf, refusalOf}
 
--- A fresh card takes a title of up to 20 bytes; a longer one is refused with 12 (the card has an empty title then: Holds, Promised.antt).
+-- A FRESH CARD takes a title of up to 20 bytes; a longer one is refused with 12, and the card has an empty title.
 pub record Made (asked : List ℕ) (r : Changed) : Type 0 where
-  pub with-title : length asked ≤ 20 → r .answer ≡ Accepted
-  pub title-refused : 20 < length asked → r .answer ≡ Refused 12
+  pub with-title : length asked ≤ 20 → (r .answer ≡ Accepted) × (titleOf asked ≡ asked)
+  pub title-refused : 20 < length asked → (r .answer ≡ Refused 12) × (titleOf asked ≡ [])
 
 -- the call is accepted, and the card is as it was
 abbrev pub Unmoved : Card → Seen → Card → Type 0

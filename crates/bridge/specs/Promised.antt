@@ -3,6 +3,7 @@
 -- looking back over the accepted calls and their answers alone.
 use Prim.Native.Nat.{ℕ, suc, _-_, _≤_, _<_}
 use mathlib.Core.Path.{_≡_}
+use mathlib.Core.Logic.{_⊎_}
 use mathlib.Core.Bool.{Bool, true, false, _&&_}
 use mathlib.Core.List.{List, [], _∷_, _++_, map}
 use lib.ListN.{length, take, drop, getD}
@@ -25,7 +26,7 @@ use Rattle.rules.specs.Refusals.{Line, lines}
 use Rattle.rules.specs.Step.{lent, front}
 use Rattle.rules.specs.Beside.{menuReader}
 use Rattle.card.specs.declared.Card.{Card}
-use Rattle.card.specs.View.{view}
+use Rattle.card.specs.View.{view, Left}
 use Rattle.history.specs.Histories.{History, accepted}
 use Rattle.history.specs.Deeds.{clears, deletes}
 use Rattle.history.specs.Named.{isPresent, isSelectable, isRegistered, ownsTimer, hasOneShot, ownsControl, oneToEight, timerOwner, controlOwner, rowsNamed, inSession, isOutstanding}
@@ -50,12 +51,8 @@ pub record Judged (c : Card) (s : Seen) (k : Card) : Type 0 where
   pub holds : 1 ≤ refusalOf s → some? (λ (x : Line). x .number == refusalOf s && x .holds) (lines (view c) (callOf s)) ≡ true
   -- .. and where a line holds it gets one, none higher than that line's: of several the lowest, and 0 just where none holds.
   pub lowest : Every (λ (x : Line). x .holds ≡ true → (1 ≤ refusalOf s) × (refusalOf s ≤ x .number)) (lines (view c) (callOf s))
-  -- Refused, it hands the card back as it was, byte for byte ..
-  pub leaves-card : (n : ℕ) → refusalOf s ≡ suc n → k ≡ c
-  -- .. leaves every byte of a buffer lent to it ..
-  pub leaves-buffer : (n : ℕ) → refusalOf s ≡ suc n → s .buffer ≡ lent (callOf s)
-  -- .. and gives its number and no other answer.
-  pub number-only : (n : ℕ) → refusalOf s ≡ suc n → s .entry .answer ≡ only (suc n)
+  -- Refused, it hands the card back as it was, byte for byte, leaves every byte of a buffer lent to it, and gives its number only.
+  pub refused : (n : ℕ) → refusalOf s ≡ suc n → (k ≡ c) × (s .buffer ≡ lent (callOf s)) × (s .entry .answer ≡ only (suc n))
   -- No second answer, buffer or card meets the contract of the same call.
   pub no-second : (t : Seen) (j : Card) → Next c t j → callOf t ≡ callOf s → (t ≡ s) × (j ≡ k)
 
@@ -79,10 +76,8 @@ pub record Orders (position : ℕ → ℕ) (before : List Row) (s : Seen) (after
   pub at-its-place : (n : ℕ) (help : Bool) (text : List ℕ) → callOf s ≡ entry (newEntry n help text) → refusalOf s ≡ 0
       → 1 ≤ position n → position n ≤ length before → after ≡ take (position n - 1) before ++ newRow s n help text ∷ drop (position n - 1) before
   -- .. 0, or more than the row count, means last.
-  pub last-for-0 : (n : ℕ) (help : Bool) (text : List ℕ) → callOf s ≡ entry (newEntry n help text) → refusalOf s ≡ 0
-      → position n ≡ 0 → after ≡ before ++ newRow s n help text ∷ []
-  pub last-behind : (n : ℕ) (help : Bool) (text : List ℕ) → callOf s ≡ entry (newEntry n help text) → refusalOf s ≡ 0
-      → length before < position n → after ≡ before ++ newRow s n help text ∷ []
+  pub last : (n : ℕ) (help : Bool) (text : List ℕ) → callOf s ≡ entry (newEntry n help text) → refusalOf s ≡ 0
+      → (position n ≡ 0) ⊎ (length before < position n) → after ≡ before ++ newRow s n help text ∷ []
   -- Whatever the call, the rows that stay keep their order among each other.
   pub kept : (p : ℕ → Bool) → ((i : ℕ) → p i ≡ true → inUse i after ≡ true) → ((i : ℕ) → p i ≡ true → inUse i before ≡ true)
       → keep p (map (λ (r : Row). r .identifier) after) ≡ keep p (map (λ (r : Row). r .identifier) before)
@@ -137,10 +132,8 @@ pub record Holds (asked : List ℕ) (h : History) (c : Card) : Type 0 where
   pub present : (n : ℕ) → has? (c .roll .present) n ≡ isPresent n h
   pub selectable : (n : ℕ) → has? (c .selectable) n ≡ isSelectable n h
   pub applet-count : c .roll .count ≡ count (λ n. isPresent n h) oneToEight
-  -- The title is the one asked for when the card was made, or empty where that was too long; the profile, whether a session has begun
-  -- and whether a command is outstanding are what the history names.
-  pub title-kept : length asked ≤ 20 → titleOf asked ≡ asked
-  pub title-long : 20 < length asked → titleOf asked ≡ []
+  -- The title is the one that the card was made with (DocumentOne.antt); the profile, whether a session has begun and whether a command
+  -- is outstanding are what the history names.
   pub title : take (c .desk .«title_len») (c .desk .title) ≡ titleOf asked
   pub profile : c .desk .profile ≡ profileNamed h
   pub session : c .desk .session ≡ inSession h
@@ -162,8 +155,7 @@ pub record Answers (h : History) (c : Card) (s : Seen) (k : Card) : Type 0 where
   -- .. and the end of a timer calls the owner that the history names.
   pub expiry-counts : (t n : ℕ) → refusalOf s ≡ 0 → arrivalIn (callOf s) ≡ expiry t
       → times n (calledBy s) ≡ (if isSelectable n h && ownsTimer t n h then 1 else 0)
-  -- Only a settled moment arrives as the one-shot's event. A ONE-SHOT fires exactly at an accepted settled moment that finds its applet
-  -- selectable ..
+  -- Only settled arrives as the one-shot's event. A ONE-SHOT fires exactly at an accepted settled that finds its applet selectable ..
   pub only-settled : arrivalIn (callOf s) ≡ settledArrival → callOf s ≡ settled
   pub fires : (n : ℕ) → refusalOf s ≡ 0 → callOf s ≡ settled → times n (calledBy s) ≡ (if isSelectable n h && hasOneShot n h then 1 else 0)
   -- .. and is used up then; that of a locked applet stays.
@@ -182,13 +174,14 @@ pub record OnScreen (asked : List ℕ) (l : List Seen) (c : Card) : Type 0 where
   pub menu : c .desk .session ≡ true → c .desk .due .menu ≡ false → MenuRight asked l (view c) (accepted (entriesOf l))
   pub codes : c .desk .session ≡ true → c .desk .due .events ≡ false → codesHanded l ≡ codesNamed (accepted (entriesOf l))
   -- WHAT IS DUE IS AT MOST TWO HAND-OUTS AWAY: a hand-out, its response and one hand-out more leave nothing due.
-  pub two-are-enough : (s t u : Seen) (k j i : Card) → Next c s k → Next k t j → Next j u i → (buffer other : List ℕ)
-      → callOf s ≡ systemCommand buffer → callOf t ≡ proactive response → callOf u ≡ systemCommand other
+  pub two-are-enough : (s t u : Seen) (k j i : Card) → Next c s k → Next k t j → Next j u i
+      → (buffer other : List ℕ) → callOf s ≡ systemCommand buffer → callOf t ≡ proactive response → callOf u ≡ systemCommand other
       → c .desk .outstanding ≡ false → 256 ≤ length buffer → 256 ≤ length other → i .desk .due ≡ nothingDue
 
 -- ALL OF IT, of a card c that was made with the title asked for, and the calls l that were seen on it.
 pub record Promised (asked : List ℕ) (l : List Seen) (c : Card) : Type 0 where
-  -- demand 1
+  -- demand 1; and what the contract of every call takes for granted of a card holds of it
+  pub left : Left c
   pub taken : (x : Call) → Taken c x
   pub judged : (s : Seen) (k : Card) → Next c s k → Judged c s k
   -- demand 2
