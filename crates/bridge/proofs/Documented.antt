@@ -2,21 +2,24 @@
 use Prim.Native.Nat.{ℕ}
 use mathlib.Core.Path.{_≡_, ap, _∙_}
 use mathlib.Core.List.{List}
-use Rattle.rules.specs.Holds.{document}
+use Rattle.rules.specs.Holds.{Bounds, document}
 use Rattle.rules.specs.Calls.{Call, Outcome, only}
 use Rattle.rules.specs.Step.{step}
 use Rattle.rules.specs.Beside.{FreshOutcome, freshCard}
 use Rattle.runs.proofs.AlreadySo.{nothingDone}
 use Rattle.card.specs.declared.Card.{Card}
 use Rattle.card.specs.declared.Changed.{Changed}
-use Rattle.card.specs.View.{stored}
+use Rattle.card.specs.View.{view, stored}
 use Rattle.card.specs.Reply.{madeBy, doneOf}
+use Rattle.card.proofs.Left.{left-sound, left-bounds, tidy-rows}
+use Rattle.card.proofs.Order.{count-small}
 use Rattle.history.specs.Histories.{accepted}
 use Rattle.history.specs.Handed.{Seen, seen, titleOf}
 use Rattle.history.proofs.DeskNamed.{fresh-with-its-title, fresh-refused-is-fresh}
 use Rattle.history.proofs.DoneAlready.{locked-already, selectable-already, registered-already, unregistered-already, enabled-already, disabled-already}
 use Rattle.bridge.specs.Watched.{entriesOf, callsOf, Next, Watched}
-use Rattle.bridge.specs.DocumentOne.{Made, Unmoved, Already}
+use Rattle.bridge.specs.DocumentOne.{Made, Room, Unmoved, Already}
+use Rattle.bridge.proofs.SameRuns.{watched-left}
 use Rattle.bridge.proofs.TablesNamed.{m, h, c}
 use Rattle.bridge.proofs.Carried.{of-call}
 
@@ -30,6 +33,16 @@ made-so asked r e =
   where
     both : {o : FreshOutcome} → freshCard document asked ≡ o → (r .answer ≡ doneOf (only (o .refusal))) × (titleOf asked ≡ o .card .desk .title)
     both q = (ap (λ (r : Changed). r .answer) (e ∙ ap madeBy q), ap (λ (o : FreshOutcome). o .card .desk .title) q)
+
+pub room : {title : List ℕ} {l : List Seen} {c : Card} → Watched title l c → Room c
+unfolding view
+room {c = c} w =
+    let left = watched-left w in
+    record {
+      applets = count-small c left;
+      rows = tidy-rows c left .few;
+      timers = left-sound c left .tables .all-timers ∙ ap (λ (b : Bounds). b .timers) (left-bounds c left);
+    }
 
 module _ (title : List ℕ) (calls : List Call) (x : Call) where
   so : (y : Call) → x ≡ y → step (m title calls) y ≡ nothingDone (m title calls)

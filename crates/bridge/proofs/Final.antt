@@ -25,7 +25,7 @@ use Rattle.bridge.proofs.TablesNamed.{m, holds}
 use Rattle.bridge.proofs.CallsNamed.{handlers, judged, orders, shows}
 use Rattle.bridge.proofs.Carried.{of-call, holds-of-it, judged-of-it, answers-of-it}
 use Rattle.bridge.proofs.FiringOnce.{fires-once}
-use Rattle.bridge.proofs.Documented.{already}
+use Rattle.bridge.proofs.Documented.{room, already}
 
 -- DEMAND 1, every call is taken, whatever its inputs
 module _ (c : Card) where
@@ -89,5 +89,6 @@ module _ {title : List ℕ} {l : List Seen} {c : Card} (w : Watched title l c) w
         answers = answers-of-it w;
         one-shots = λ n later moment stretch setting before e. fires-once title n later moment stretch setting before (subst (λ (k : List Seen). Watched title k c) e w);
         screen = on-screen;
+        room = room w;
         already = already w;
       }

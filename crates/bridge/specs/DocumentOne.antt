@@ -26,6 +26,12 @@ pub record Made (asked : List ℕ) (r : Changed) : Type 0 where
   pub with-title : length asked ≤ 20 → (r .answer ≡ Accepted) × (titleOf asked ≡ asked)
   pub title-refused : 20 < length asked → (r .answer ≡ Refused 12) × (titleOf asked ≡ [])
 
+-- A card has at most 8 applets, at most 12 menu rows, and 8 timers.
+pub record Room (c : Card) : Type 0 where
+  pub applets : c .roll .count ≤ 8
+  pub rows : c .rows .count ≤ 12
+  pub timers : length (c .bank .owner) ≡ 8
+
 -- the call is accepted, and the card is as it was
 abbrev pub Unmoved : Card → Seen → Card → Type 0
 Unmoved c s k = (refusalOf s ≡ 0) × (k ≡ c)

@@ -36,7 +36,7 @@ use Rattle.history.specs.OnScreen.{leftDue, MenuRight}
 use Rattle.history.proofs.DeskNamed.{profileNamed}
 use Rattle.bridge.specs.Watched.{entriesOf, callOf, refusalOf, calledBy, Next}
 use Rattle.bridge.specs.OneShots.{SetAndSettled, FiresOnce}
-use Rattle.bridge.specs.DocumentOne.{Already}
+use Rattle.bridge.specs.DocumentOne.{Room, Already}
 
 -- DEMAND 1. Every public call takes every input ..
 pub record Taken (c : Card) (x : Call) : Type 0 where
@@ -109,10 +109,9 @@ pub record Shows (asked : List ℕ) (h : History) (c : Card) (s : Seen) (k : Car
 
 -- DEMAND 3. The card's tables, after any calls, refused ones included, with this history of the accepted ones.
 pub record Holds (asked : List ℕ) (h : History) (c : Card) : Type 0 where
-  -- The menu list holds one row for each accepted menu entry whose applet has not been deleted since, and no other: whatever is asked
-  -- of a row, as many meet it ..
+  -- The menu list holds one row for each accepted menu entry whose applet has not been deleted since, and no other ..
   pub rows : (p : Row → Bool) → count p (viewRows (c .rows)) ≡ count p (rowsNamed h)
-  -- .. the count of rows is theirs ..
+  -- .. (whatever is asked of a row, as many of both lists meet it), the count of rows is theirs ..
   pub row-count : c .rows .count ≡ length (rowsNamed h)
   -- .. all identifiers are different, whatever the titles ..
   pub apart : (i : ℕ) → count (hasIdentifier i) (viewRows (c .rows)) ≤ 1
@@ -194,6 +193,7 @@ pub record Promised (asked : List ℕ) (l : List Seen) (c : Card) : Type 0 where
   -- .. a one-shot, set and then settled, fires exactly once, wherever that stands in the calls (OneShots.antt)
   pub one-shots : (n : ℕ) (later : List Seen) (moment : Seen) (stretch : List Seen) (setting : Seen) (before : List Seen)
       → l ≡ later ++ (moment ∷ stretch ++ setting ∷ before) → SetAndSettled n later moment stretch setting before → FiresOnce n later moment stretch
-  -- the screen; and what is so already (DocumentOne.antt)
+  -- the screen; and the card's room and what is so already (DocumentOne.antt)
   pub screen : OnScreen asked l c
+  pub room : Room c
   pub already : (s : Seen) (k : Card) → Next c s k → Already (accepted (entriesOf l)) c s k
