@@ -29,11 +29,10 @@ use Rattle.card.specs.declared.Card.{Card}
 use Rattle.card.specs.View.{view, Left}
 use Rattle.history.specs.Histories.{History, accepted}
 use Rattle.history.specs.Deeds.{clears, deletes}
-use Rattle.history.specs.Named.{isPresent, isSelectable, isRegistered, ownsTimer, hasOneShot, ownsControl, oneToEight, timerOwner, controlOwner, rowsNamed, inSession, isOutstanding}
+use Rattle.history.specs.Named.{isPresent, isSelectable, isRegistered, ownsTimer, hasOneShot, ownsControl, oneToEight, timerOwner, controlOwner, rowsNamed, inSession, isOutstanding, profileNamed}
 use Rattle.history.specs.Called.{isChosen, isHelped, isDue, Calls, arrivalIn}
 use Rattle.history.specs.Handed.{Seen, titleOf, handed, isEventList, codesHanded, isShown, codesNamed}
 use Rattle.history.specs.OnScreen.{leftDue, MenuRight}
-use Rattle.history.proofs.DeskNamed.{profileNamed}
 use Rattle.bridge.specs.Watched.{entriesOf, callOf, refusalOf, calledBy, Next}
 use Rattle.bridge.specs.OneShots.{SetAndSettled, FiresOnce}
 use Rattle.bridge.specs.DocumentOne.{Room, Already}

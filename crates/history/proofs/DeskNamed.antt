@@ -8,7 +8,7 @@ use mathlib.Core.List.{List, [], _∷_, _++_}
 use lib.ListN.{length, take, drop, replicate}
 use borrow.Author.Tests.{lt-ltb, ltb-true}
 use Rattle.lists.specs.Tests.{if_then_else_, _<?_}
-use Rattle.lists.specs.Lists.{keep, padded}
+use Rattle.lists.specs.Lists.{keep}
 use Rattle.rules.specs.Holds.{Bounds, Desk, Model, document, fresh}
 use Rattle.rules.specs.Commands.{shownMenu, shownEvents, menuOf, menuBytes, eventBytes}
 use Rattle.rules.specs.Desk.{Matter, marked, withMarks, withProfile, handedOut, dueMatters, dueCommand, withFirst, withHandedOut}
@@ -20,7 +20,7 @@ use Rattle.rules.specs.Runs.{after}
 use Rattle.rules.proofs.DueMarks.{marked-same, first-due, first-handed}
 use Rattle.runs.proofs.Run.{desk-lasts, marked-lasts}
 use Rattle.history.specs.Histories.{History, did, accepted}
-use Rattle.history.specs.Deeds.{profiles}
+use Rattle.history.specs.Named.{profileBytes, profileNamed}
 use Rattle.history.specs.Runs.{historyOf}
 use Rattle.history.proofs.Open.{reading}
 use Rattle.history.proofs.Agrees.{accepted-more, accepted-same, plain}
@@ -56,22 +56,6 @@ pub title-is-the-one-given : (title : List ℕ) (calls : List Call) → m title 
 unfolding after
 title-is-the-one-given title [] = refl
 title-is-the-one-given title (c ∷ calls) = title-kept (m title calls) c ∙ title-is-the-one-given title calls
-
--- The bytes of a profile, and what a history names: the first 32 bytes of the last accepted profile with zeros behind; zeros before any.
-unfoldable pub profileBytes : Call → List ℕ
-profileBytes (admin c) = []
-profileBytes (event c) = []
-profileBytes (entry c) = []
-profileBytes (timer c) = []
-profileBytes (arrival (envelope bytes)) = []
-profileBytes (arrival (profile bytes)) = bytes
-profileBytes settled = []
-profileBytes (proactive c) = []
-profileBytes (systemCommand buffer) = []
-
-unfoldable pub profileNamed : History → List ℕ
-profileNamed [] = replicate 32 0
-profileNamed (e ∷ h) = if profiles e then padded 32 0 (take 32 (profileBytes (e .call))) else profileNamed h
 
 profile-after : (x : Model) (h : History) (c : Call) → x .desk .profile ≡ profileNamed h → deskAfter x c .profile ≡ profileNamed (did c (answer x c) ∷ h)
 unfolding deskAfter arrivalDesk proactiveDesk withProfile withHandedOut withFirst profileNamed profileBytes reading

@@ -2,10 +2,12 @@
 use Prim.Native.Nat.{ℕ}
 use mathlib.Core.Bool.{Bool, true, false, not, _&&_, _||_}
 use mathlib.Core.List.{List, [], _∷_, _++_}
+use lib.ListN.{take, replicate}
 use Rattle.lists.specs.Tests.{if_then_else_, _==_}
-use Rattle.lists.specs.Lists.{some?, first}
+use Rattle.lists.specs.Lists.{some?, first, padded}
 use Rattle.rules.specs.Holds.{Row}
 use Rattle.rules.specs.Events.{callControl, handlerAvailable}
+use Rattle.rules.specs.Calls.{Call, admin, event, entry, timer, arrival, envelope, profile, settled, proactive, systemCommand}
 use Rattle.history.specs.Histories.{Entry, History, stands}
 use Rattle.history.specs.Deeds.{installs, deletes, locks, unlocks, priorityIn, sets, clears, gives, releases, makes, changes, enables, disables, appletIn, textIn, helpIn, settles, profiles, commands, responds}
 
@@ -96,3 +98,19 @@ inSession h = some? profiles h
 -- A command is outstanding: one was sent or handed out, with no response or profile since.
 unfoldable pub isOutstanding : History → Bool
 isOutstanding h = stands commands (λ e. responds e || profiles e) h
+
+-- The terminal profile: the first 32 bytes of the last accepted one, with zeros behind; zeros before any.
+unfoldable pub profileBytes : Call → List ℕ
+profileBytes (admin c) = []
+profileBytes (event c) = []
+profileBytes (entry c) = []
+profileBytes (timer c) = []
+profileBytes (arrival (envelope bytes)) = []
+profileBytes (arrival (profile bytes)) = bytes
+profileBytes settled = []
+profileBytes (proactive c) = []
+profileBytes (systemCommand buffer) = []
+
+unfoldable pub profileNamed : History → List ℕ
+profileNamed [] = replicate 32 0
+profileNamed (e ∷ h) = if profiles e then padded 32 0 (take 32 (profileBytes (e .call))) else profileNamed h
