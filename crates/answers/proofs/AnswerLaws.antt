@@ -8,7 +8,7 @@ use lib.ListN.{length, take, length-take}
 use borrow.Author.Tests.{ne-eqb}
 use Rattle.lists.specs.Wrote.{Wrote}
 use Rattle.rules.specs.Floor.{decimal, lineOf}
-use Rattle.paper.specs.declared.Answer.{Answer}
+use Rattle.rules.specs.declared.Answer.{Answer}
 use Rattle.answers.specs.Shown.{answerLine}
 
 module _ (k letter : ℕ) (a : Answer) (shown : List ℕ) {b d : List ℕ} {n : ℕ} where

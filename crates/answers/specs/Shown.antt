@@ -8,7 +8,7 @@ use Rattle.asks.specs.declared.Gift.{Gift as GiftAsk}
 use Rattle.asks.specs.declared.Gift.the-variants as gift
 use Rattle.asks.specs.declared.Ask.{Ask}
 use Rattle.asks.specs.declared.Ask.the-variants.{Deed, Gift, Arrival, Unknown}
-use Rattle.paper.specs.declared.Answer.{Answer}
+use Rattle.rules.specs.declared.Answer.{Answer}
 
 -- the identifier or the timer; the command, so many bytes at the front of out
 unfoldable pub shownGift : GiftAsk → Answer → (out : List ℕ) → List ℕ

@@ -4,7 +4,7 @@ use asks::Gift;
 use asks::first;
 use lines::Refusal;
 use lines::write_line;
-use paper::Answer;
+use rules::Answer;
 ghost use mathlib.Core.Path.{_≡_};
 ghost use mathlib.Core.List.{[]};
 ghost use Prim.Native.Nat.{ℕ, _≤_};

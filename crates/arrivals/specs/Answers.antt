@@ -1,9 +1,10 @@
 -- The answer to an arrival, and the desk after a profile.
 use Prim.Native.Nat.{ℕ}
 use mathlib.Core.Path.{_≡_}
+use mathlib.Core.Bool.{false}
 use mathlib.Core.List.{List}
 use Rattle.lists.specs.Tests.{if_then_else_, _==_}
-use Rattle.rules.specs.declared.Called.{Called}
+use Rattle.rules.specs.declared.Answer.{Answer}
 use Rattle.rules.specs.declared.Desk as held
 use Rattle.rules.specs.declared.Due.{Due}
 use Rattle.rules.specs.declared.Marks.{Marks}
@@ -14,8 +15,8 @@ use Rattle.rules.specs.Held.{storedDesk}
 use Rattle.applets.specs.declared.Callees.{Callees}
 
 -- the refusal's number, those called, and the marks, of which there are none with a refusal
-abbrev pub answering : (refusal : ℕ) → Callees → Marks → Called
-answering r c marks = record { refusal = r; at = c .at; count = c .count; marks = if r == 0 then marks else noMarks }
+abbrev pub answering : (refusal : ℕ) → Callees → Marks → Answer
+answering r c marks = record { refusal = r; number = 0; says = false; called = c .at; count = c .count; marks = if r == 0 then marks else noMarks }
 
 -- r is the desk k after a profile, on every card where what is due is what is not empty
 abbrev pub Begins : (bytes : List ℕ) → Due → (k r : held.Desk) → Type 0

@@ -1,8 +1,8 @@
 // What arrivals come to that needs less than the card: whom an envelope is for, as a set of applets; the answer, with the
 // handlers available to those called; and the desk after a profile.
 use applets::Callees;
+use rules::Answer;
 use rules::Bank;
-use rules::Called;
 use rules::Desk;
 use rules::Due;
 use rules::Envelope;
@@ -11,7 +11,7 @@ use rules::Marks;
 use rules::Rows;
 ghost use mathlib.Core.Path.{_≡_};
 ghost use mathlib.Core.List.{[], _∷_};
-ghost use Rattle.rules.specs.Arrivals.{responds, envelopeMarks, proactiveOnly};
+ghost use Rattle.rules.specs.Arrivals.{responds, envelopeMarks, otherMarks};
 ghost use Rattle.rules.specs.Refusals.{line, lowest};
 ghost use Rattle.rules.specs.Held.{viewRows, TidyRows};
 ghost use Rattle.arrivals.specs.Whom.{ForCode, ForEnvelope, calledSet};
@@ -77,12 +77,12 @@ pub fn called(refusal: u8, whom: u8, selectable: u8) -> u8
     0
 }
 
-// The marks where only the proactive handler is available.
-pub fn proactive_only() -> Marks
-    ensures { λ r. ⌜ r ≡ proactiveOnly ⌝ }
+// The marks that come with a profile or a settled moment.
+pub fn other_marks(outstanding: bool) -> Marks
+    ensures { λ r. ⌜ r ≡ otherMarks outstanding ⌝ }
 {
     Marks {
-        proactive: true,
+        proactive: !outstanding,
         envelope: false,
         response: false,
     }
@@ -115,19 +115,21 @@ pub fn envelope_marks(outstanding: bool, e: Envelope) -> Marks
 }
 
 // The answer: the refusal's number, those called, and the marks, of which there are none with a refusal.
-pub fn answered(refusal: u8, callees: Callees, marks: Marks) -> Called
+pub fn answered(refusal: u8, callees: Callees, marks: Marks) -> Answer
     ensures { λ r. ⌜ r ≡ answering refusal callees marks ⌝ }
 {
-    let at = callees.at;
+    let called = callees.at;
     let accepted = refusal == 0;
     let allowed = Marks {
         proactive: accepted & marks.proactive,
         envelope: accepted & marks.envelope,
         response: accepted & marks.response,
     };
-    Called {
+    Answer {
         refusal,
-        at,
+        number: 0,
+        says: false,
+        called,
         count: callees.count,
         marks: allowed,
     }

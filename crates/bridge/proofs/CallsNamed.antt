@@ -16,13 +16,13 @@ use Rattle.rules.specs.Applets.{applet}
 use Rattle.rules.specs.Envelopes.{envelopeOf}
 use Rattle.rules.specs.Rows.{nextPair}
 use Rattle.rules.specs.Commands.{Menu, menuOf, menuBytes}
-use Rattle.rules.specs.Arrivals.{Arrival, envelopeMarks}
+use Rattle.rules.specs.Arrivals.{Arrival, envelopeMarks, otherMarks}
 use Rattle.rules.specs.Calls.{Call, Answer, Outcome, entry, settled, systemCommand, newEntry}
-use Rattle.rules.specs.Desk.{dueCommand}
-use Rattle.rules.specs.Step.{arrivalAnswer, answer, written, front, outcome, step}
+use Rattle.rules.specs.Desk.{dueCommand, withProfile}
+use Rattle.rules.specs.Step.{arrivalAnswer, arrivalDesk, answer, written, front, outcome, step}
 use Rattle.rules.specs.Beside.{ReadOutcome, menuReader}
 use Rattle.rules.specs.Runs.{after}
-use Rattle.rules.proofs.Refused.{refused}
+use Rattle.rules.proofs.OnRefusal.{refused}
 use Rattle.rules.proofs.DueMarks.{first-due}
 use Rattle.card.specs.declared.Card.{Card}
 use Rattle.card.specs.View.{stored}
@@ -121,12 +121,12 @@ module _ (title : List ℕ) (calls : List Call) (x : Call) where
 
   -- DEMAND 2, the handlers
   pub handlers : Handlers (h title calls) s
-  unfolding answer arrivalAnswer
+  unfolding answer arrivalAnswer arrivalDesk withProfile
   handlers =
       record {
         envelope-marks = λ bytes ok e. marks-are ok e ∙ ap (λ (b : Bool). envelopeMarks b (envelopeOf bytes)) (runs.outstanding-is-named title calls);
         profile-marks = λ bytes ok e. marks-are ok e;
-        settled-marks = λ ok e. marks-are ok e;
+        settled-marks = λ ok e. marks-are ok e ∙ ap otherMarks (runs.outstanding-is-named title calls);
       }
     where
       marks-are : {y : Call} → step (m title calls) x .answer .refusal ≡ 0 → x ≡ y → s .entry .answer .marks ≡ answer (m title calls) y .marks

@@ -5,10 +5,10 @@ use mathlib.Core.Path.{_≡_, sym, ap, subst, _∙_}
 use mathlib.Core.Bool.{true}
 use Rattle.lists.specs.Lists.{Every}
 use Rattle.rules.specs.Holds.{Model}
-use Rattle.rules.specs.Calls.{Call, Outcome, only}
+use Rattle.rules.specs.Calls.{Call, Outcome, refusedWith}
 use Rattle.rules.specs.Refusals.{Line, lines, refusal}
 use Rattle.rules.specs.Step.{step, lent}
-use Rattle.rules.proofs.Refused.{refused}
+use Rattle.rules.proofs.OnRefusal.{refused}
 use Rattle.runs.proofs.Lowest.{IsLowest, call-gets-the-lowest}
 use Rattle.history.proofs.Answered.{gives}
 use Rattle.card.specs.declared.Card.{Card}
@@ -26,7 +26,7 @@ module _ (c : Card) (left : Left c) (x : Call) (n : ℕ) (no-way : refusal (view
   refusal-leaves-the-buffer = ap (λ (o : Outcome). o .buffer) (refused (view c) x n no-way)
 
   -- .. and gives its number and no other answer.
-  pub refusal-gives-its-number-only : step (view c) x .answer ≡ only (suc n)
+  pub refusal-gives-its-number-only : step (view c) x .answer ≡ refusedWith (suc n)
   refusal-gives-its-number-only = ap (λ (o : Outcome). o .answer) (refused (view c) x n no-way)
 
 -- OF SEVERAL REFUSALS THE LOWEST IS GIVEN. The number in the answer is that of a line of the table that lists the call and holds, and no

@@ -3,14 +3,15 @@ use Prim.Native.Nat.{ℕ}
 use mathlib.Core.Path.{_≡_, ap, _∙_}
 use mathlib.Core.List.{List}
 use Rattle.rules.specs.Holds.{Bounds, document}
-use Rattle.rules.specs.Calls.{Call, Outcome, only}
+use Rattle.rules.specs.Calls.{Call, Outcome, refusedWith}
 use Rattle.rules.specs.Step.{step}
+use Rattle.rules.specs.Held.{storedAnswer}
 use Rattle.rules.specs.Beside.{FreshOutcome, freshCard}
 use Rattle.runs.proofs.AlreadySo.{nothingDone}
 use Rattle.card.specs.declared.Card.{Card}
-use Rattle.card.specs.declared.Changed.{Changed}
+use Rattle.card.specs.declared.Reply.{Reply}
 use Rattle.card.specs.View.{view, stored}
-use Rattle.card.specs.Reply.{madeBy, doneOf}
+use Rattle.card.specs.Replies.{freshReply, MakesFresh}
 use Rattle.card.proofs.Left.{left-sound, left-bounds, tidy-rows}
 use Rattle.card.proofs.Order.{count-small}
 use Rattle.history.specs.Histories.{accepted}
@@ -23,16 +24,16 @@ use Rattle.bridge.proofs.SameRuns.{watched-left}
 use Rattle.bridge.proofs.TablesNamed.{m, h, c}
 use Rattle.bridge.proofs.Carried.{of-call}
 
-pub made-so : (asked : List ℕ) (r : Changed) → r ≡ madeBy (freshCard document asked) → Made asked r
-unfolding madeBy doneOf
+pub made-so : (asked : List ℕ) (r : Reply) → MakesFresh asked r → Made asked r
+unfolding freshReply
 made-so asked r e =
     record {
       with-title = λ i. both (fresh-with-its-title document asked i);
       title-refused = λ i. both (fresh-refused-is-fresh document asked i);
     }
   where
-    both : {o : FreshOutcome} → freshCard document asked ≡ o → (r .answer ≡ doneOf (only (o .refusal))) × (titleOf asked ≡ o .card .desk .title)
-    both q = (ap (λ (r : Changed). r .answer) (e ∙ ap madeBy q), ap (λ (o : FreshOutcome). o .card .desk .title) q)
+    both : {o : FreshOutcome} → freshCard document asked ≡ o → (r .answer ≡ storedAnswer (refusedWith (o .refusal))) × (titleOf asked ≡ o .card .desk .title)
+    both q = (ap (λ (r : Reply). r .answer) (e ∙ ap freshReply q), ap (λ (o : FreshOutcome). o .card .desk .title) q)
 
 pub room : {title : List ℕ} {l : List Seen} {c : Card} → Watched title l c → Room c
 unfolding view

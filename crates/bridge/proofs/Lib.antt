@@ -1,10 +1,9 @@
--- Demand 1 in one place; no second answer; the menu command of a card read back; the sequences that the promises over all runs
+-- Demand 1 in one place; no second answer; two menus never have the same bytes; the sequences that the promises over all runs
 -- speak of are those of the card's calls; the screen is right; and the final theorem, over the struct, in its parts and whole.
 pub mod DemandOne
 pub mod OneAnswer
 pub mod OneMenu
 pub mod SameRuns
-pub mod RoundTrip
 pub mod OnScreen
 pub mod TablesNamed
 pub mod CallsNamed

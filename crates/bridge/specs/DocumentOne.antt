@@ -8,23 +8,22 @@ use lib.IntN.{ℤ}
 use Rattle.lists.specs.Tests.{_==_}
 use Rattle.lists.specs.Lists.{some?, first}
 use Rattle.rules.specs.declared.Kind.the-variants.{Event}
-use Rattle.rules.specs.declared.Done.the-variants.{Accepted, Refused}
 use Rattle.rules.specs.Holds.{Row}
-use Rattle.rules.specs.Held.{noRow}
+use Rattle.rules.specs.Held.{noRow, storedAnswer}
 use Rattle.rules.specs.Events.{kindOf, notToSet}
 use Rattle.rules.specs.Rows.{hasIdentifier}
-use Rattle.rules.specs.Calls.{admin, event, entry, lock, unlock, setEvent, clearEvent, enableEntry, disableEntry}
+use Rattle.rules.specs.Calls.{accepted, refusedWith, admin, event, entry, lock, unlock, setEvent, clearEvent, enableEntry, disableEntry}
 use Rattle.card.specs.declared.Card.{Card}
-use Rattle.card.specs.declared.Changed.{Changed}
+use Rattle.card.specs.declared.Reply.{Reply}
 use Rattle.history.specs.Histories.{History}
 use Rattle.history.specs.Named.{isPresent, isSelectable, isRegistered, rowsNamed}
 use Rattle.history.specs.Handed.{Seen, titleOf}
 use Rattle.bridge.specs.Watched.{callOf, refusalOf}
 
 -- A FRESH CARD takes a title of up to 20 bytes; a longer one is refused with 12, and the card has an empty title.
-pub record Made (asked : List ℕ) (r : Changed) : Type 0 where
-  pub with-title : length asked ≤ 20 → (r .answer ≡ Accepted) × (titleOf asked ≡ asked)
-  pub title-refused : 20 < length asked → (r .answer ≡ Refused 12) × (titleOf asked ≡ [])
+pub record Made (asked : List ℕ) (r : Reply) : Type 0 where
+  pub with-title : length asked ≤ 20 → (r .answer ≡ storedAnswer accepted) × (titleOf asked ≡ asked)
+  pub title-refused : 20 < length asked → (r .answer ≡ storedAnswer (refusedWith 12)) × (titleOf asked ≡ [])
 
 -- A card has at most 8 applets, at most 12 menu rows, and 8 timers.
 pub record Room (c : Card) : Type 0 where

@@ -19,9 +19,9 @@ use Rattle.rules.specs.Applets.{applet}
 use Rattle.rules.specs.Rows.{hasIdentifier, inUse, nextPair}
 use Rattle.rules.specs.Timers.{ownerOf}
 use Rattle.rules.specs.Envelopes.{envelopeOf}
-use Rattle.rules.specs.Arrivals.{choice, help as helpOn, expiry, settledArrival, envelopeMarks, proactiveOnly}
+use Rattle.rules.specs.Arrivals.{choice, help as helpOn, expiry, settledArrival, envelopeMarks, otherMarks}
 use Rattle.rules.specs.Commands.{Menu, menuOf, menuBytes, eventBytes, isMenu}
-use Rattle.rules.specs.Calls.{Call, only, event, entry, arrival, settled, proactive, systemCommand, askEvent, newEntry, envelope, profile, send, response}
+use Rattle.rules.specs.Calls.{Call, refusedWith, event, entry, arrival, settled, proactive, systemCommand, askEvent, newEntry, envelope, profile, send, response}
 use Rattle.rules.specs.Refusals.{Line, lines}
 use Rattle.rules.specs.Step.{lent, front}
 use Rattle.rules.specs.Beside.{menuReader}
@@ -51,16 +51,17 @@ pub record Judged (c : Card) (s : Seen) (k : Card) : Type 0 where
   -- .. and where a line holds it gets one, none higher than that line's: of several the lowest, and 0 just where none holds.
   pub lowest : Every (λ (x : Line). x .holds ≡ true → (1 ≤ refusalOf s) × (refusalOf s ≤ x .number)) (lines (view c) (callOf s))
   -- Refused, it hands the card back as it was, byte for byte, leaves every byte of a buffer lent to it, and gives its number only.
-  pub refused : (n : ℕ) → refusalOf s ≡ suc n → (k ≡ c) × (s .buffer ≡ lent (callOf s)) × (s .entry .answer ≡ only (suc n))
+  pub refused : (n : ℕ) → refusalOf s ≡ suc n → (k ≡ c) × (s .buffer ≡ lent (callOf s)) × (s .entry .answer ≡ refusedWith (suc n))
   -- No second answer, buffer or card meets the contract of the same call.
   pub no-second : (t : Seen) (j : Card) → Next c t j → callOf t ≡ callOf s → (t ≡ s) × (j ≡ k)
 
 -- DEMAND 2. Registration and triggering order stand with demand 3 (registered, called). HANDLER AVAILABILITY: the proactive handler while
--- no command is outstanding, the envelope handler with envelopes only, the response handler with call control and unrecognized ones.
+-- no command is outstanding (a profile ends it), the envelope handler with envelopes only, the response handler with call control and
+-- unrecognized ones.
 pub record Handlers (h : History) (s : Seen) : Type 0 where
   pub envelope-marks : (bytes : List ℕ) → refusalOf s ≡ 0 → callOf s ≡ arrival (envelope bytes) → s .entry .answer .marks ≡ envelopeMarks (isOutstanding h) (envelopeOf bytes)
-  pub profile-marks : (bytes : List ℕ) → refusalOf s ≡ 0 → callOf s ≡ arrival (profile bytes) → s .entry .answer .marks ≡ proactiveOnly
-  pub settled-marks : refusalOf s ≡ 0 → callOf s ≡ settled → s .entry .answer .marks ≡ proactiveOnly
+  pub profile-marks : (bytes : List ℕ) → refusalOf s ≡ 0 → callOf s ≡ arrival (profile bytes) → s .entry .answer .marks ≡ otherMarks false
+  pub settled-marks : refusalOf s ≡ 0 → callOf s ≡ settled → s .entry .answer .marks ≡ otherMarks (isOutstanding h)
 
 -- MENU ORDER: the position that applet n requested for its next entry, and the row that this entry makes.
 abbrev pub positionOf : Card → (applet : ℕ) → ℕ

@@ -13,12 +13,11 @@ use Rattle.sets.specs.Sets.{has?}
 use Rattle.sets.proofs.Bits.{has-set}
 use Rattle.rules.specs.declared.Kind.{Kind}
 use Rattle.rules.specs.declared.Kind.the-variants.{Event}
-use Rattle.rules.specs.declared.Told.{Told}
-use Rattle.rules.specs.declared.Told.the-variants.{Yes, No, Refused}
+use Rattle.rules.specs.declared.Answer.{Answer}
 use Rattle.rules.specs.Holds.{Bounds, Tables, Model}
 use Rattle.rules.specs.Events.{kindOf, callControl}
 use Rattle.rules.specs.Applets.{present, applet, registered, isRegistered}
-use Rattle.rules.specs.Calls.{event, askEvent, saying}
+use Rattle.rules.specs.Calls.{event, askEvent, saying, refusedWith}
 use Rattle.rules.specs.Refusals.{lines, absent, eventLines, refusal}
 use Rattle.rules.specs.Step.{step, outcome, tablesAfter, eventTables, deskAfter, answer, eventAnswer}
 use Rattle.events.specs.Place.{placeOf}
@@ -27,12 +26,13 @@ use Rattle.runs.proofs.Looked.{has-its-number, number-from, number-to}
 use Rattle.applets.specs.ByNumber.{at, registeredSet}
 use Rattle.refusals.proofs.Calls.{eventRefusal, event-known}
 use Rattle.card.specs.declared.Card.{Card}
-use Rattle.card.specs.declared.Asked.{Asked}
+use Rattle.card.specs.declared.Reply.{Reply}
 use Rattle.card.specs.View.{view, stored, Left}
-use Rattle.card.specs.Reply.{askedBy, toldOf}
+use Rattle.card.specs.Replies.{replied}
+use Rattle.rules.specs.Held.{storedAnswer}
 use Rattle.card.specs.Turns.{isListed}
 use Rattle.card.proofs.Left.{left-sound, left-bounds}
-use Rattle.card.proofs.Reply.{asks, stays, control-form}
+use Rattle.card.proofs.Replied.{replies, stays, control-form}
 use Rattle.card.proofs.Present.{present-by}
 use Rattle.card.proofs.Listeners.{set-is}
 
@@ -76,13 +76,13 @@ module _
         let here : present t n ≡ true = sym (found ∙ present-by c left n) ∙ known .0 in
         ap saying (ap (isRegistered t n) is ∙ sym (registered-is here))
 
-    told : (if r == 0 then (if says then Yes else No) else Refused r) ≡ toldOf (step m (event (askEvent n v)) .answer)
-    unfolding step toldOf
-    told = go r refl ∙ ap (λ (k : ℕ). toldOf (outcome k m (event (askEvent n v)) .answer)) refusal-is
+    told : storedAnswer (if r == 0 then saying says else refusedWith r) ≡ storedAnswer (step m (event (askEvent n v)) .answer)
+    unfolding step
+    told = ap storedAnswer (go r refl ∙ ap (λ (k : ℕ). outcome k m (event (askEvent n v)) .answer) refusal-is)
       where
-        go : (j : ℕ) → r ≡ j → (if j == 0 then (if says then Yes else No) else Refused j) ≡ toldOf (outcome j m (event (askEvent n v)) .answer)
-        go zero z = unfold outcome in ap toldOf (sym (accepted z))
+        go : (j : ℕ) → r ≡ j → (if j == 0 then saying says else refusedWith j) ≡ outcome j m (event (askEvent n v)) .answer
+        go zero z = unfold outcome in sym (accepted z)
         go (suc j) z = unfold outcome in rw (ne-eqb (suc j) 0 (λ w. omega arith)) refl
 
-    pub asks-event : {a : Told} → a ≡ (if r == 0 then (if says then Yes else No) else Refused r) → _≡_ {A = Asked} (record { card = c; answer = a }) (askedBy (step m (event (askEvent n v))))
-    asks-event e = asks (step m (event (askEvent n v))) (ask-stays c left n v) (e ∙ told)
+    pub asks-event : {a : Answer} → a ≡ storedAnswer (if r == 0 then saying says else refusedWith r) → _≡_ {A = Reply} (record { card = c; answer = a }) (replied (step m (event (askEvent n v))))
+    asks-event e = replies (step m (event (askEvent n v))) (ask-stays c left n v) (e ∙ told)

@@ -12,7 +12,7 @@ use Rattle.lists.proofs.Keep.{keep-none}
 use Rattle.lists.proofs.Truth.{and-swap}
 use Rattle.sets.specs.Sets.{has?, setBoth}
 use Rattle.sets.proofs.Bits.{has-set, has-empty}
-use Rattle.rules.specs.declared.Called.{Called}
+use Rattle.rules.specs.declared.Answer.{Answer}
 use Rattle.rules.specs.declared.Marks.{Marks}
 use Rattle.rules.specs.Holds.{Tables}
 use Rattle.rules.specs.Arrivals.{Arrival, wants, called}
@@ -27,7 +27,7 @@ use Rattle.arrivals.specs.Whom.{IsFor, calledSet}
 use Rattle.arrivals.specs.Answers.{answering}
 use Rattle.card.specs.declared.Card.{Card}
 use Rattle.card.specs.View.{view, Left}
-use Rattle.card.specs.Reply.{calledOf}
+use Rattle.rules.specs.Held.{storedAnswer}
 use Rattle.card.proofs.Left.{left-sound, left-bounds}
 use Rattle.card.proofs.Order.{order-is}
 use Rattle.card.proofs.Present.{selectable-has}
@@ -52,20 +52,20 @@ module _ (c : Card) (left : Left c) (a : Arrival) {w : ℕ} (f : IsFor (view c .
 
   -- THE ANSWER, by its refusal
   module _ (x : Call) (marks : Marks) (accepted : answer (view c) x ≡ calling (called t a) marks) where
-    answer-by : (r : ℕ) → answering r (calleesOf (keep (has? (calledSet r w (c .selectable))) in-order)) marks ≡ calledOf (outcome r (view c) x .answer)
-    unfolding calledOf calleesOf outcome
+    answer-by : (r : ℕ) → answering r (calleesOf (keep (has? (calledSet r w (c .selectable))) in-order)) marks ≡ storedAnswer (outcome r (view c) x .answer)
+    unfolding storedAnswer calleesOf outcome
     answer-by zero = rw (accepted, called-are) refl
     answer-by (suc r) = rw (ne-eqb (suc r) 0 (λ z. omega arith), keep-none (has? 0) has-empty in-order) refl
 
     pub answers
-        : {r s : ℕ} {k : Callees} {b : Called}
+        : {r s : ℕ} {k : Callees} {b : Answer}
         → r ≡ refusal (view c) x
         → s ≡ calledSet r w (c .selectable)
         → k ≡ calleesOf (keep (has? s) in-order)
         → b ≡ answering r k marks
-        → b ≡ calledOf (step (view c) x .answer)
+        → b ≡ storedAnswer (step (view c) x .answer)
     unfolding step
     answers {r} e p q z =
         z ∙ ap (λ (k : Callees). answering r k marks) (q ∙ ap (λ (s : ℕ). calleesOf (keep (has? s) in-order)) p)
         ∙ answer-by r
-        ∙ ap (λ (r : ℕ). calledOf (outcome r (view c) x .answer)) e
+        ∙ ap (λ (r : ℕ). storedAnswer (outcome r (view c) x .answer)) e

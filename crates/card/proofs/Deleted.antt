@@ -15,13 +15,13 @@ use Rattle.sets.proofs.LeftOut.{turned-without, meets-without}
 use Rattle.rules.specs.declared.Roll.{Roll}
 use Rattle.rules.specs.declared.Rows.{Rows}
 use Rattle.rules.specs.declared.Bank.{Bank}
-use Rattle.rules.specs.declared.Done.{Done}
+use Rattle.rules.specs.declared.Answer.{Answer}
 use Rattle.rules.specs.Holds.{Applet, Bounds, Tables, Desk, Model, document}
-use Rattle.rules.specs.Held.{viewRows, storedRows}
+use Rattle.rules.specs.Held.{viewRows, storedRows, storedAnswer}
 use Rattle.rules.specs.Applets.{present, applet, forget}
 use Rattle.rules.specs.Rows.{withoutRows}
 use Rattle.rules.specs.Timers.{withoutTimers}
-use Rattle.rules.specs.Calls.{admin, delete, only}
+use Rattle.rules.specs.Calls.{admin, delete, accepted, refusedWith}
 use Rattle.rules.specs.Desk.{menuChanges, eventsChange, marked}
 use Rattle.rules.specs.Refusals.{lines, lowest, absent, adminLines, refusal}
 use Rattle.rules.specs.Step.{step, tablesAfter, adminTables, deskAfter, answer}
@@ -37,12 +37,12 @@ use Rattle.screen.specs.Asked.{hasEnabledRow}
 use Rattle.screen.proofs.MenuByApplets.{delete-menu}
 use Rattle.downloads.specs.Turns.{anyCode, codeTurns}
 use Rattle.card.specs.declared.Card.{Card}
-use Rattle.card.specs.declared.Changed.{Changed}
+use Rattle.card.specs.declared.Reply.{Reply}
 use Rattle.card.specs.View.{view, stored, Left}
-use Rattle.card.specs.Reply.{changedBy, doneOf}
+use Rattle.card.specs.Replies.{replied}
 use Rattle.card.proofs.Left.{left-form, left-sound, left-bounds}
 use Rattle.card.proofs.Marks.{withDue, due-desk}
-use Rattle.card.proofs.Reply.{changes, tablesBy, after-by, answer-by, card-is, roll-form, selectable-form, registered-form, made-form, desk-form}
+use Rattle.card.proofs.Replied.{replies, tablesBy, after-by, answer-by, card-is, roll-form, selectable-form, registered-form, made-form, desk-form}
 use Rattle.card.proofs.Present.{present-by, low-is, high-is, selectable-has}
 use Rattle.card.proofs.Listeners.{set-is, codes-by}
 
@@ -163,29 +163,29 @@ module _ (c : Card) (left : Left c) (n : ℕ) {there : Bool} (found : there ≡ 
   unfolding deskAfter
   still = refl
 
-  plain : answer (view c) (admin (delete n)) ≡ only 0
+  plain : answer (view c) (admin (delete n)) ≡ accepted
   unfolding answer
   plain = refl
 
-  abbrev Says : Card → Done → Type 0
-  Says k a = _≡_ {A = Changed} (record { card = k; answer = a }) (changedBy (step (view c) (admin (delete n))))
+  abbrev Says : Card → Answer → Type 0
+  Says k a = _≡_ {A = Reply} (record { card = k; answer = a }) (replied (step (view c) (admin (delete n))))
 
-  leaves : {k : Card} {a : Done} (u : Tables) → u ≡ tablesBy (view c) (admin (delete n)) r
-      → k ≡ stored (record { tables = u; desk = marked (view c .tables) u (view c .desk) }) → a ≡ doneOf (only r) → Says k a
+  leaves : {k : Card} {a : Answer} (u : Tables) → u ≡ tablesBy (view c) (admin (delete n)) r
+      → k ≡ stored (record { tables = u; desk = marked (view c .tables) u (view c .desk) }) → a ≡ storedAnswer (refusedWith r) → Says k a
   leaves u h q e =
-      changes (step (view c) (admin (delete n)))
+      replies (step (view c) (admin (delete n)))
       (q ∙ ap (λ (w : Tables). stored (record { tables = w; desk = marked (view c .tables) w (view c .desk) })) h ∙ ap stored (sym (after-by (view c) (admin (delete n)) refusal-is still)))
-      (e ∙ ap doneOf (sym (answer-by (view c) (admin (delete n)) refusal-is plain)))
+      (e ∙ ap storedAnswer (sym (answer-by (view c) (admin (delete n)) refusal-is plain)))
 
-  pub deletes : {k : Card} {a : Done} → there ≡ true
+  pub deletes : {k : Card} {a : Answer} → there ≡ true
       → k ≡ stored (record { tables = adminTables (view c .tables) (delete n); desk = marked (view c .tables) (adminTables (view c .tables) (delete n)) (view c .desk) })
-      → a ≡ doneOf (only r) → Says k a
+      → a ≡ storedAnswer (refusedWith r) → Says k a
   unfolding tablesAfter
   deletes h q e =
       let z : r ≡ 0 = refused ∙ rw h refl in
       leaves (adminTables (view c .tables) (delete n)) (rw z refl) q e
 
-  pub deletes-none : {k : Card} {a : Done} → there ≡ false → k ≡ c → a ≡ doneOf (only r) → Says k a
+  pub deletes-none : {k : Card} {a : Answer} → there ≡ false → k ≡ c → a ≡ storedAnswer (refusedWith r) → Says k a
   deletes-none h q e =
       let z : r ≡ 2 = refused ∙ rw h refl in
       leaves (view c .tables) (rw z refl) (q ∙ left-form c left ∙ ap (λ (d : Desk). stored (record { tables = view c .tables; desk = d })) (sym (marked-same (view c .tables) (view c .desk)))) e

@@ -16,15 +16,15 @@ use Rattle.lists.proofs.Firsts.{first-passes}
 use Rattle.lists.proofs.Tables.{table-alike}
 use Rattle.lists.proofs.Truth.{and-false}
 use Rattle.sets.specs.Sets.{has?}
-use Rattle.rules.specs.declared.Done.{Done}
+use Rattle.rules.specs.declared.Answer.{Answer}
 use Rattle.rules.specs.declared.Grant.{Grant}
 use Rattle.rules.specs.declared.Rows.{Rows}
 use Rattle.rules.specs.Holds.{Row, Bounds, Tables, withRows}
-use Rattle.rules.specs.Held.{noRow, viewRows, storedRows}
+use Rattle.rules.specs.Held.{noRow, viewRows, storedRows, storedAnswer}
 use Rattle.rules.specs.Applets.{nobody, present, applet}
 use Rattle.rules.specs.Rows.{withText, withEnabled}
 use Rattle.rules.specs.Desk.{menuChanges, eventsChange, marked}
-use Rattle.rules.specs.Calls.{EntryCall, entry, changeEntry, only}
+use Rattle.rules.specs.Calls.{EntryCall, entry, changeEntry, accepted, refusedWith}
 use Rattle.rules.specs.Refusals.{line, lowest, refusal}
 use Rattle.rules.specs.Step.{step, outcome, changed, tablesAfter, deskAfter, entryTables, answer, entryAnswer}
 use Rattle.runs.specs.Sound.{SoundRow, SoundTables}
@@ -39,12 +39,12 @@ use Rattle.downloads.proofs.Quiet.{rows-events}
 use Rattle.refusals.specs.Lines.{unfitText}
 use Rattle.refusals.proofs.Calls.{turning, turn-refusal, change-refusal}
 use Rattle.card.specs.declared.Card.{Card}
-use Rattle.card.specs.declared.Changed.{Changed}
+use Rattle.card.specs.declared.Reply.{Reply}
 use Rattle.card.specs.View.{view, stored, Left}
-use Rattle.card.specs.Reply.{changedBy, doneOf}
+use Rattle.card.specs.Replies.{replied}
 use Rattle.card.proofs.Left.{left-form, left-sound, left-bounds}
 use Rattle.card.proofs.Marks.{withDue, due-desk, unmarked}
-use Rattle.card.proofs.Reply.{changes, answer-by, card-is, roll-form, selectable-form, registered-form, made-form, control-form, rows-form, bank-form, desk-form}
+use Rattle.card.proofs.Replied.{replies, answer-by, card-is, roll-form, selectable-form, registered-form, made-form, control-form, rows-form, bank-form, desk-form}
 use Rattle.card.proofs.Present.{present-by, grant-is, selectable-has}
 
 -- what an accepted call about entries leaves, and that a refused one leaves the card
@@ -105,17 +105,17 @@ owner-there t s n i its =
     sym (ap (present t) own) ∙ every-first (SoundRow t) (itsRow n i) noRow (t .rows) its (s .each-row) .owner
 
 -- A CALL THAT CHANGES ROWS ONLY, by what became of the rows
-module _ (c : Card) (left : Left c) (n : ℕ) (y : EntryCall) {r : ℕ} (e : r ≡ refusal (view c) (entry y)) (plain : entryAnswer (view c .tables) y ≡ only 0) {a : Done} (says : a ≡ doneOf (only r))
+module _ (c : Card) (left : Left c) (n : ℕ) (y : EntryCall) {r : ℕ} (e : r ≡ refusal (view c) (entry y)) (plain : entryAnswer (view c .tables) y ≡ accepted) {a : Answer} (says : a ≡ storedAnswer (refusedWith r))
     {shown x : Bool} (sh : shown ≡ has? (c .selectable) n) (w : Turned) (due : x ≡ (c .desk .session && (shown && w .turns) || c .desk .due .menu))
   where
-    replied : {k : Card} → k ≡ stored (step (view c) (entry y) .after) → _≡_ {A = Changed} (record { card = k; answer = a }) (changedBy (step (view c) (entry y)))
+    leaves : {k : Card} → k ≡ stored (step (view c) (entry y) .after) → _≡_ {A = Reply} (record { card = k; answer = a }) (replied (step (view c) (entry y)))
     unfolding answer
-    replied is = changes (step (view c) (entry y)) is (says ∙ ap doneOf (sym (answer-by (view c) (entry y) e plain)))
+    leaves is = replies (step (view c) (entry y)) is (says ∙ ap storedAnswer (sym (answer-by (view c) (entry y) e plain)))
 
-    rows-kept : (r ≡ 0 → ⊥) → w .rows ≡ storedRows (view c .tables .rows) → w .turns ≡ false → _≡_ {A = Changed} (record { card = withEntries c (c .made) (w .rows) x; answer = a }) (changedBy (step (view c) (entry y)))
+    rows-kept : (r ≡ 0 → ⊥) → w .rows ≡ storedRows (view c .tables .rows) → w .turns ≡ false → _≡_ {A = Reply} (record { card = withEntries c (c .made) (w .rows) x; answer = a }) (replied (step (view c) (entry y)))
     rows-kept z nx still =
         let off : c .desk .due .menu ≡ x = unmarked (c .desk .session) (c .desk .due .menu) ∙ sym (due ∙ ap (λ (b : Bool). c .desk .session && b || c .desk .due .menu) (ap (λ (b : Bool). shown && b) still ∙ and-false shown)) in
-        replied (ap₂ (λ (k : Rows) (b : Bool). withEntries c (c .made) k b) (nx ∙ sym (rows-form c left)) (sym off) ∙ entry-refused c left y e z)
+        leaves (ap₂ (λ (k : Rows) (b : Bool). withEntries c (c .made) k b) (nx ∙ sym (rows-form c left)) (sym off) ∙ entry-refused c left y e z)
 
     rows-changed
         : r ≡ 0
@@ -124,10 +124,10 @@ module _ (c : Card) (left : Left c) (n : ℕ) (y : EntryCall) {r : ℕ} (e : r �
         → entryTables (view c .tables) y ≡ withRows (view c .tables) rows
         → menuChanges (view c .tables) (withRows (view c .tables) rows) ≡ (applet (view c .tables) n .selectable && w .turns)
         → w .rows ≡ storedRows rows
-        → _≡_ {A = Changed} (record { card = withEntries c (c .made) (w .rows) x; answer = a }) (changedBy (step (view c) (entry y)))
+        → _≡_ {A = Reply} (record { card = withEntries c (c .made) (w .rows) x; answer = a }) (replied (step (view c) (entry y)))
     rows-changed z rows here ts shows nx =
         let t = view c .tables in
-        replied
+        leaves
         (entry-card c left (withRows t rows) refl refl (λ e. refl) refl refl (rows-events t rows) (made-form c left) nx
         (ap (λ (b : Bool). b && w .turns) (sh ∙ selectable-there c left n here) ∙ sym shows) due
         ∙ ap (λ (s : Tables). stored (record { tables = s; desk = marked t s (view c .desk) })) (sym ts)
@@ -153,7 +153,7 @@ unfolding entryTables
 turn-tables t n i true = refl
 turn-tables t n i false = refl
 
-turn-answer : (t : Tables) (n i : ℕ) (on : Bool) → entryAnswer t (turning on n i) ≡ only 0
+turn-answer : (t : Tables) (n i : ℕ) (on : Bool) → entryAnswer t (turning on n i) ≡ accepted
 unfolding entryAnswer
 turn-answer t n i true = refl
 turn-answer t n i false = refl
@@ -161,7 +161,7 @@ turn-answer t n i false = refl
 module _ (c : Card) (left : Left c) (n i : ℕ) (on : Bool) {there : Bool} (found : there ≡ has? (c .roll .present) n)
     {shown x : Bool} (sh : shown ≡ has? (c .selectable) n) {w : Turned} (is : w ≡ markedBy n i on (viewRows (c .rows)))
     (due : x ≡ (c .desk .session && (shown && w .turns) || c .desk .due .menu))
-    {r : ℕ} (e : r ≡ lowest (line 2 (not there) ∷ line 11 (not (w .its)) ∷ [])) {a : Done} (says : a ≡ doneOf (only r))
+    {r : ℕ} (e : r ≡ lowest (line 2 (not there) ∷ line 11 (not (w .its)) ∷ [])) {a : Answer} (says : a ≡ storedAnswer (refusedWith r))
   where
     its-is : w .its ≡ some? (itsRow n i) (view c .tables .rows)
     unfolding view
@@ -170,11 +170,11 @@ module _ (c : Card) (left : Left c) (n i : ℕ) (on : Bool) {there : Bool} (foun
     is-turned : r ≡ refusal (view c) (entry (turning on n i))
     is-turned = turn-refusal (view c) n (found ∙ present-by c left n) i on (its-is ∙ its-known (view c .tables .rows) n i) e
 
-    pub turns-entry : _≡_ {A = Changed} (record { card = withEntries c (c .made) (w .rows) x; answer = a }) (changedBy (step (view c) (entry (turning on n i))))
+    pub turns-entry : _≡_ {A = Reply} (record { card = withEntries c (c .made) (w .rows) x; answer = a }) (replied (step (view c) (entry (turning on n i))))
     unfolding view
     turns-entry = go (some? (itsRow n i) (view c .tables .rows)) refl
       where
-        go : (b : Bool) → some? (itsRow n i) (view c .tables .rows) ≡ b → _≡_ {A = Changed} (record { card = withEntries c (c .made) (w .rows) x; answer = a }) (changedBy (step (view c) (entry (turning on n i))))
+        go : (b : Bool) → some? (itsRow n i) (view c .tables .rows) ≡ b → _≡_ {A = Reply} (record { card = withEntries c (c .made) (w .rows) x; answer = a }) (replied (step (view c) (entry (turning on n i))))
         go true q =
             let t = view c .tables in
             let s = left-sound c left .tables in
@@ -197,7 +197,7 @@ module _ (c : Card) (left : Left c) (n i : ℕ) (help : Bool) (text : List ℕ) 
     {shown x : Bool} (sh : shown ≡ has? (c .selectable) n) {g : Grant} (granted : g ≡ byNumber (grantOf nobody) (c .roll .grants) n)
     {fits : Bool} (fit : fits ≡ not (unfitText (g .text) text)) {w : Turned} (is : w ≡ rewordedBy n i fits help text (viewRows (c .rows)))
     (due : x ≡ (c .desk .session && (shown && w .turns) || c .desk .due .menu))
-    {r : ℕ} (e : r ≡ lowest (line 2 (not there) ∷ line 11 (not (w .its)) ∷ line 12 (not fits) ∷ [])) {a : Done} (says : a ≡ doneOf (only r))
+    {r : ℕ} (e : r ≡ lowest (line 2 (not there) ∷ line 11 (not (w .its)) ∷ line 12 (not fits) ∷ [])) {a : Answer} (says : a ≡ storedAnswer (refusedWith r))
   where
     row-is : w .its ≡ some? (itsRow n i) (view c .tables .rows)
     unfolding view
@@ -210,14 +210,14 @@ module _ (c : Card) (left : Left c) (n i : ℕ) (help : Bool) (text : List ℕ) 
     is-changed : r ≡ refusal (view c) (entry (changeEntry n i help text))
     is-changed = change-refusal (view c) n (found ∙ present-by c left n) i help text (row-is ∙ its-known (view c .tables .rows) n i) limit-is fit e
 
-    abbrev Reply : Type 0
-    Reply = _≡_ {A = Changed} (record { card = withEntries c (c .made) (w .rows) x; answer = a }) (changedBy (step (view c) (entry (changeEntry n i help text))))
+    abbrev Changes : Type 0
+    Changes = _≡_ {A = Reply} (record { card = withEntries c (c .made) (w .rows) x; answer = a }) (replied (step (view c) (entry (changeEntry n i help text))))
 
-    kept : (r ≡ 0 → ⊥) → w .rows ≡ storedRows (view c .tables .rows) → w .turns ≡ false → Reply
+    kept : (r ≡ 0 → ⊥) → w .rows ≡ storedRows (view c .tables .rows) → w .turns ≡ false → Changes
     unfolding entryAnswer
     kept z nx still = rows-kept c left n (changeEntry n i help text) is-changed refl says sh w due z nx still
 
-    made-so : r ≡ 0 → some? (itsRow n i) (view c .tables .rows) ≡ true → w ≡ rewordedBy n i true help text (view c .tables .rows) → Reply
+    made-so : r ≡ 0 → some? (itsRow n i) (view c .tables .rows) ≡ true → w ≡ rewordedBy n i true help text (view c .tables .rows) → Changes
     unfolding entryAnswer entryTables
     made-so z q worded =
         let t = view c .tables in
@@ -230,14 +230,14 @@ module _ (c : Card) (left : Left c) (n i : ℕ) (help : Bool) (text : List ℕ) 
         (text-shows t s n i (does .its) help text ∙ ap (λ (b : Bool). applet t n .selectable && b) (sym (ap (λ (k : Turned). k .turns) so)))
         (ap (λ (k : Turned). k .rows) so ∙ ap (λ (k : List ℕ). storedRows (withText i help k (t .rows))) whole)
 
-    pub changes-words : Reply
+    pub changes-words : Changes
     unfolding view
     changes-words = go (some? (itsRow n i) (view c .tables .rows)) fits refl refl
       where
         l : List Row
         l = view c .tables .rows
 
-        go : (b f : Bool) → some? (itsRow n i) l ≡ b → fits ≡ f → Reply
+        go : (b f : Bool) → some? (itsRow n i) l ≡ b → fits ≡ f → Changes
         go true true q p =
             made-so (e ∙ rw (found ∙ present-by c left n ∙ owner-there (view c .tables) (left-sound c left .tables) n i q, row-is ∙ q, p) (unfold lowest in refl)) q
             (is ∙ ap (λ (f : Bool). rewordedBy n i f help text l) p)

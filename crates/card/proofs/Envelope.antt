@@ -7,7 +7,7 @@ use mathlib.Core.List.{List, [], _∷_}
 use lib.ListN.{take}
 use Rattle.lists.specs.Lists.{keep}
 use Rattle.sets.specs.Sets.{has?}
-use Rattle.rules.specs.declared.Called.{Called}
+use Rattle.rules.specs.declared.Answer.{Answer}
 use Rattle.rules.specs.declared.Envelope.{Envelope}
 use Rattle.rules.specs.declared.Marks.{Marks}
 use Rattle.rules.specs.Holds.{Model}
@@ -23,11 +23,11 @@ use Rattle.arrivals.specs.Whom.{ForEnvelope, calledSet}
 use Rattle.arrivals.specs.Answers.{answering}
 use Rattle.arrivals.proofs.IsFor.{envelope-as}
 use Rattle.card.specs.declared.Card.{Card}
-use Rattle.card.specs.declared.Arrived.{Arrived}
+use Rattle.card.specs.declared.Reply.{Reply}
 use Rattle.card.specs.View.{view, stored, Left}
-use Rattle.card.specs.Reply.{arrivedBy}
+use Rattle.card.specs.Replies.{replied}
 use Rattle.card.proofs.Left.{left-sound}
-use Rattle.card.proofs.Reply.{arrives, stays, registered-form}
+use Rattle.card.proofs.Replied.{replies, stays, registered-form}
 use Rattle.card.proofs.Calling.{answers}
 
 module _ (c : Card) (left : Left c) (bytes : List ℕ) where
@@ -46,12 +46,12 @@ module _ (c : Card) (left : Left c) (bytes : List ℕ) where
   refusal-is = refl
 
   accepted : answer m it ≡ calling (called (m .tables) (arrivalOf (envelopeOf bytes))) (envelopeMarks (c .desk .outstanding) (envelopeOf bytes))
-  unfolding answer arrivalAnswer view viewDesk
+  unfolding answer arrivalAnswer arrivalDesk view viewDesk
   accepted = refl
 
   -- ENVELOPE, by what the parts of the code say
   pub comes
-      : {e : Envelope} {bad : Bool} {r w s : ℕ} {k : Callees} {marks : Marks} {b : Called}
+      : {e : Envelope} {bad : Bool} {r w s : ℕ} {k : Callees} {marks : Marks} {b : Answer}
       → e ≡ envelopeOf bytes
       → bad ≡ badEnvelope e
       → r ≡ lowest (line 1 bad ∷ [])
@@ -60,11 +60,11 @@ module _ (c : Card) (left : Left c) (bytes : List ℕ) where
       → k ≡ calleesOf (keep (has? s) (take (c .roll .count) (c .roll .order)))
       → marks ≡ envelopeMarks (c .desk .outstanding) e
       → b ≡ answering r k marks
-      → _≡_ {A = Arrived} (record { card = c; answer = b }) (arrivedBy (step m it))
+      → _≡_ {A = Reply} (record { card = c; answer = b }) (replied (step m it))
   unfolding step view
   comes {e} {r = r} {k = k} i x n f p q g h =
       let is : r ≡ refusal m it = n ∙ ap (λ (b : Bool). lowest (line 1 b ∷ [])) (x ∙ ap badEnvelope i) ∙ refusal-is in
       let for-it = f (m .tables) (left-sound c left .tables) refl (registered-form c left) refl refl in
-      arrives (step m it) envelope-stays
+      replies (step m it) envelope-stays
       (answers c left (arrivalOf (envelopeOf bytes)) (envelope-as (m .tables) (sym i) for-it) it (envelopeMarks (c .desk .outstanding) (envelopeOf bytes)) accepted
       is p q (h ∙ ap (λ (y : Marks). answering r k y) (g ∙ ap (envelopeMarks (c .desk .outstanding)) i)))

@@ -20,11 +20,11 @@ use Rattle.sets.specs.Sets.{has?, meets, turnedSet}
 use Rattle.sets.proofs.Bits.{has-set, set-alike}
 use Rattle.rules.specs.declared.Kind.{Kind}
 use Rattle.rules.specs.declared.Kind.the-variants.{Event}
-use Rattle.rules.specs.declared.Done.{Done}
+use Rattle.rules.specs.declared.Answer.{Answer}
 use Rattle.rules.specs.Holds.{Applet, Tables, Model, withApplets, withControl, withEvent}
 use Rattle.rules.specs.Events.{kindOf, callControl, isControl}
 use Rattle.rules.specs.Applets.{hasNumber, present, applet, forget, register, withRegistration, ownedByAnother}
-use Rattle.rules.specs.Calls.{EventCall, event, setEvent, clearEvent, only}
+use Rattle.rules.specs.Calls.{EventCall, event, setEvent, clearEvent, accepted, refusedWith}
 use Rattle.rules.specs.Desk.{menuChanges, eventsChange, marked}
 use Rattle.rules.specs.Refusals.{line, lines, absent, eventLines, refusal}
 use Rattle.rules.specs.Step.{step, tablesAfter, eventTables, deskAfter, answer, eventAnswer}
@@ -40,15 +40,16 @@ use Rattle.downloads.specs.Turns.{isDownload, eventsTurn}
 use Rattle.downloads.proofs.Quiet.{control-events}
 use Rattle.refusals.proofs.Calls.{eventRefusal, event-known}
 use Rattle.card.specs.declared.Card.{Card}
-use Rattle.card.specs.declared.Changed.{Changed}
+use Rattle.card.specs.declared.Reply.{Reply}
 use Rattle.card.specs.View.{view, stored, Left}
-use Rattle.card.specs.Reply.{changedBy, doneOf}
+use Rattle.card.specs.Replies.{replied}
+use Rattle.rules.specs.Held.{storedAnswer}
 use Rattle.card.specs.Turns.{setAfter, ownerAfter}
 use Rattle.card.proofs.Left.{left-sound, left-bounds}
 use Rattle.card.proofs.Marks.{withDue, unmarked}
 use Rattle.card.proofs.Present.{present-by, menu-same, events-none}
 use Rattle.card.proofs.Listeners.{set-is, event-by}
-use Rattle.card.proofs.Reply.{changes, tablesBy, after-by, answer-by, next-card, selectable-form, registered-form, control-form}
+use Rattle.card.proofs.Replied.{replies, tablesBy, after-by, answer-by, next-card, selectable-form, registered-form, control-form}
 
 -- set event, or clear event, and its refusal
 abbrev turning : (applet : ℕ) (value : ℤ) → Bool → EventCall
@@ -183,7 +184,7 @@ module _
     refusal-is : r ≡ refusal m (event call)
     refusal-is = refused ∙ ap (λ (o : ℕ). turnRefusal there k o n on) (control-form c left) ∙ turn-refusal-is m n v on (found ∙ present-by c left n) kind
 
-    plain : (b : Bool) → answer m (event (turning n v b)) ≡ only 0
+    plain : (b : Bool) → answer m (event (turning n v b)) ≡ accepted
     unfolding answer eventAnswer
     plain true = refl
     plain false = refl
@@ -276,13 +277,13 @@ module _
             go true false e f = when-event e f
             go false b e f = when-refused e
 
-        pub turns-event : {a : Done} → a ≡ doneOf (only r)
-            → _≡_ {A = Changed}
+        pub turns-event : {a : Answer} → a ≡ storedAnswer (refusedWith r)
+            → _≡_ {A = Reply}
             (record {
               card = record { roll = c .roll; selectable = c .selectable; registered = set (c .registered) p g; made = c .made; control = o; rows = c .rows; bank = c .bank; desk = withDue (c .desk) (c .desk .due .menu) due };
               answer = a;
             })
-            (changedBy (step m (event call)))
+            (replied (step m (event call)))
         turns-event e =
-            changes (step m (event call)) (card-after ∙ ap stored (sym (after-by m (event call) refusal-is still)))
-            (e ∙ ap doneOf (sym (answer-by m (event call) refusal-is (plain on))))
+            replies (step m (event call)) (card-after ∙ ap stored (sym (after-by m (event call) refusal-is still)))
+            (e ∙ ap storedAnswer (sym (answer-by m (event call) refusal-is (plain on))))

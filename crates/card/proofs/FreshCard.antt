@@ -12,22 +12,22 @@ use Rattle.lists.specs.Tests.{if_then_else_, _==_, _<?_}
 use Rattle.lists.specs.Lists.{padded, first}
 use Rattle.lists.specs.Tables.{table}
 use Rattle.sets.specs.Sets.{numbers, valued, setOf}
-use Rattle.rules.specs.declared.Done.{Done}
+use Rattle.rules.specs.declared.Answer.{Answer}
 use Rattle.rules.specs.declared.Roll.{Roll}
 use Rattle.rules.specs.declared.Rows.{Rows}
 use Rattle.rules.specs.Holds.{document, fresh, nothingDue}
-use Rattle.rules.specs.Held.{storedRows, storedDesk}
-use Rattle.rules.specs.Calls.{only}
+use Rattle.rules.specs.Held.{storedRows, storedDesk, storedAnswer}
+use Rattle.rules.specs.Calls.{refusedWith}
 use Rattle.rules.specs.Refusals.{line, lowest}
 use Rattle.rules.specs.Beside.{freshCard, freshBy}
 use Rattle.rules.specs.Runs.{after}
 use Rattle.refusals.proofs.Calls.{title-short}
 use Rattle.applets.specs.ByNumber.{rollOf, selectableSet, registeredSet, madeTable}
 use Rattle.card.specs.declared.Card.{Card}
-use Rattle.card.specs.declared.Changed.{Changed}
+use Rattle.card.specs.declared.Reply.{Reply}
 use Rattle.card.specs.View.{stored, Left}
-use Rattle.card.specs.Reply.{doneOf, madeBy}
-use Rattle.card.proofs.Reply.{card-is}
+use Rattle.card.specs.Replies.{freshReply}
+use Rattle.card.proofs.Replied.{card-is}
 
 module _ (title : List ℕ) where
   -- a card with no applet and no row, part by part
@@ -74,15 +74,15 @@ module _ (title : List ℕ) where
     refusal-is zero = refl
     refusal-is (suc k) = refl
 
-    pub freshens : {k : Card} {a : Done} → k ≡ stored (fresh document (take n title)) → a ≡ doneOf (only r)
-        → _≡_ {A = Changed} (record { card = k; answer = a }) (madeBy (freshCard document title))
-    unfolding freshCard madeBy
+    pub freshens : {k : Card} {a : Answer} → k ≡ stored (fresh document (take n title)) → a ≡ storedAnswer (refusedWith r)
+        → _≡_ {A = Reply} (record { card = k; answer = a }) (freshReply (freshCard document title))
+    unfolding freshCard freshReply
     freshens {k} {a} p q =
         ap (λ (x : Card). record { card = x; answer = a }) (p ∙ ap stored (by-refusal r refl .2))
-        ∙ ap (λ (x : Done). record { card = stored (freshBy r document title .card); answer = x }) (q ∙ ap (λ (i : ℕ). doneOf (only i)) (sym (refusal-is r)))
-        ∙ ap (λ (i : ℕ). madeBy (freshBy i document title)) e
+        ∙ ap (λ (x : Answer). record { card = stored (freshBy r document title .card); answer = x }) (q ∙ ap (λ (i : ℕ). storedAnswer (refusedWith i)) (sym (refusal-is r)))
+        ∙ ap (λ (i : ℕ). freshReply (freshBy i document title)) e
 
   -- a fresh card is one that no call was made on
-  pub fresh-left : Left (madeBy (freshCard document title) .card)
-  unfolding madeBy after
+  pub fresh-left : Left (freshReply (freshCard document title) .card)
+  unfolding freshReply after
   fresh-left = record { title = title; calls = []; is = refl }

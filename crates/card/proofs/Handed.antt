@@ -17,11 +17,11 @@ use Rattle.lists.proofs.Truth.{and-true, or-false}
 use Rattle.lists.proofs.Writing.{wrote-none}
 use Rattle.rules.specs.declared.Rows.{Rows}
 use Rattle.rules.specs.declared.Desk as held
-use Rattle.rules.specs.declared.Given.{Given}
+use Rattle.rules.specs.declared.Answer.{Answer}
 use Rattle.rules.specs.Holds.{Row, Bounds, Desk, Model}
 use Rattle.rules.specs.Events.{codes, firstDownload}
-use Rattle.rules.specs.Held.{viewDesk, storedDesk}
-use Rattle.rules.specs.Calls.{Call, systemCommand, only, numbered}
+use Rattle.rules.specs.Held.{viewDesk, storedDesk, storedAnswer}
+use Rattle.rules.specs.Calls.{Call, systemCommand, refusedWith, numbered}
 use Rattle.rules.specs.Commands.{shownMenu, shownEvents, menuOf, menuBytes, commandBytes, detailBytes, lengthBytes, eventBytes}
 use Rattle.rules.specs.Desk.{handedOut, withMarks, dueCommand, withHandedOut}
 use Rattle.rules.specs.Refusals.{refusal, line, lines, lowest}
@@ -39,11 +39,11 @@ use Rattle.downloads.specs.Listed.{codesFrom, codesOf}
 use Rattle.downloads.specs.Turns.{isListened}
 use Rattle.downloads.proofs.Listed.{few-codes, events-by}
 use Rattle.card.specs.declared.Card.{Card}
-use Rattle.card.specs.declared.Numbered.{Numbered}
+use Rattle.card.specs.declared.Reply.{Reply}
 use Rattle.card.specs.View.{view, stored, Left}
-use Rattle.card.specs.Reply.{numberedBy, givenOf}
+use Rattle.card.specs.Replies.{replied}
 use Rattle.card.proofs.Left.{left-form, left-sound, left-bounds, tidy-rows}
-use Rattle.card.proofs.Reply.{gives, selectable-form, registered-form, desk-form}
+use Rattle.card.proofs.Replied.{replies, selectable-form, registered-form, desk-form}
 use Rattle.card.proofs.Sends.{withDesk, desk-card}
 
 -- THE MENU of the shown rows
@@ -212,11 +212,11 @@ module _ (c : Card) (left : Left c) where
           go true false d k = refl
           go false b d k = refl
 
-      module _ {y : List ℕ} {n : ℕ} (w : Handed buffer (if menu then menuNow else if events then eventsNow else []) y n) {a : Given} (s : a ≡ givenOf (if r == 0 then numbered n else only r)) where
+      module _ {y : List ℕ} {n : ℕ} (w : Handed buffer (if menu then menuNow else if events then eventsNow else []) y n) {a : Answer} (s : a ≡ storedAnswer (if r == 0 then numbered n else refusedWith r)) where
         abbrev After : ℕ → Type 0
         After k =
             (withDesk c (heldMarks (c .desk) (c .desk .due .menu && not menu) (c .desk .due .events && not events) (c .desk .outstanding || menu || events)) ≡ stored (outcome k m x .after))
-            × (a ≡ givenOf (outcome k m x .answer))
+            × (a ≡ storedAnswer (outcome k m x .answer))
             × (y ≡ outcome k m x .buffer)
 
         by-refusal : (k : ℕ) → r ≡ k → After k
@@ -229,7 +229,7 @@ module _ (c : Card) (left : Left c) where
             let v : Handed buffer (dueCommand (m .tables) (m .desk)) y n = rw out at w in
             let long : n ≡ length (dueCommand (m .tables) (m .desk)) = omega (arith, v .0 .next) in (
               rw (marked-same (m .tables) (withHandedOut (m .desk))) (desk-card c left (withHandedOut (m .desk)) desk-is),
-              s ∙ ap (λ (k : ℕ). givenOf (if k == 0 then numbered n else only k)) h ∙ ap (λ (k : ℕ). givenOf (numbered k)) long,
+              s ∙ ap (λ (k : ℕ). storedAnswer (if k == 0 then numbered n else refusedWith k)) h ∙ ap (λ (k : ℕ). storedAnswer (numbered k)) long,
               in-front (v .0),
             )
         by-refusal (suc k) h =
@@ -237,16 +237,16 @@ module _ (c : Card) (left : Left c) where
             let f : menu ≡ false = p ∙ ap (λ (k : ℕ). k == 0 && (not false && c .desk .due .menu)) h ∙ rw no-more refl in
             let g : events ≡ false = q ∙ ap (λ (k : ℕ). k == 0 && (not (c .desk .due .menu) && c .desk .due .events)) h ∙ rw no-more refl in (
               rw (f, g, and-true (c .desk .due .menu), and-true (c .desk .due .events), or-false (c .desk .outstanding), or-false (c .desk .outstanding)) (left-form c left),
-              s ∙ ap (λ (k : ℕ). givenOf (if k == 0 then numbered n else only k)) h ∙ ap (λ (b : Bool). givenOf (if b then numbered n else only (suc k))) no-more,
+              s ∙ ap (λ (k : ℕ). storedAnswer (if k == 0 then numbered n else refusedWith k)) h ∙ ap (λ (b : Bool). storedAnswer (if b then numbered n else refusedWith (suc k))) no-more,
               unwritten (rw (f, g) at w),
             )
 
         pub hands-out
-            : (_≡_ {A = Numbered}
+            : (_≡_ {A = Reply}
             (record { card = withDesk c (heldMarks (c .desk) (c .desk .due .menu && not menu) (c .desk .due .events && not events) (c .desk .outstanding || menu || events)); answer = a })
-            (numberedBy (step m x)))
+            (replied (step m x)))
             × (y ≡ step m x .buffer)
         unfolding step
         hands-out =
             let o = by-refusal (refusal m x) refusal-is in
-            (gives (step m x) (o .0) (o .1), o .2)
+            (replies (step m x) (o .0) (o .1), o .2)

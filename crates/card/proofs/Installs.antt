@@ -17,14 +17,14 @@ use Rattle.lists.proofs.Tables.{table-alike}
 use Rattle.lists.proofs.Truth.{and-left}
 use Rattle.sets.specs.Sets.{turnedSet}
 use Rattle.sets.proofs.Bits.{set-alike}
-use Rattle.rules.specs.declared.Done.{Done}
+use Rattle.rules.specs.declared.Answer.{Answer}
 use Rattle.rules.specs.declared.Grant.{Grant}
 use Rattle.rules.specs.declared.Request.{Request}
 use Rattle.rules.specs.declared.Roll.{Roll}
 use Rattle.rules.specs.Holds.{Applet, Row, Bounds, Tables, Desk, Model}
-use Rattle.rules.specs.Held.{storedDesk}
+use Rattle.rules.specs.Held.{storedDesk, storedAnswer}
 use Rattle.rules.specs.Applets.{hasNumber, nobody, present, applet, newcomer}
-use Rattle.rules.specs.Calls.{Call, admin, install, only}
+use Rattle.rules.specs.Calls.{Call, admin, install, accepted, refusedWith}
 use Rattle.rules.specs.Desk.{marked}
 use Rattle.rules.specs.Refusals.{lines, refusal}
 use Rattle.rules.specs.Step.{step, tablesAfter, adminTables, deskAfter, answer}
@@ -41,13 +41,13 @@ use Rattle.applets.specs.Rolls.{rollWith}
 use Rattle.applets.proofs.Joined.{at-more, set-more, roll-more}
 use Rattle.admission.specs.Refuses.{RefusesInstall}
 use Rattle.card.specs.declared.Card.{Card}
-use Rattle.card.specs.declared.Changed.{Changed}
+use Rattle.card.specs.declared.Reply.{Reply}
 use Rattle.card.specs.View.{view, stored, Left}
-use Rattle.card.specs.Reply.{changedBy, doneOf}
+use Rattle.card.specs.Replies.{replied}
 use Rattle.card.proofs.Left.{left-form, left-sound, left-bounds}
 use Rattle.card.proofs.Marks.{due-desk, unmarked}
 use Rattle.card.proofs.Order.{count-is}
-use Rattle.card.proofs.Reply.{changes, tablesBy, after-by, answer-by, card-is, roll-form, selectable-form, registered-form, made-form, control-form, rows-form, bank-form, desk-form}
+use Rattle.card.proofs.Replied.{replies, tablesBy, after-by, answer-by, card-is, roll-form, selectable-form, registered-form, made-form, control-form, rows-form, bank-form, desk-form}
 
 module _ (c : Card) (left : Left c) (n : ℕ) (q : Request) where
   abbrev t : Tables
@@ -189,8 +189,8 @@ module _ (c : Card) (left : Left c) (n : ℕ) (q : Request) where
     as-it-was h is =
         rw (ne-eqb r 0 h) (is ∙ left-form c left ∙ ap (λ (d : Desk). stored (record { tables = t; desk = d })) (sym (marked-same t (m .desk))))
 
-    pub replies : {k : Card} {a : Done} → Leaves k → a ≡ doneOf (only r) → _≡_ {A = Changed} (record { card = k; answer = a }) (changedBy (step m call))
-    replies e f =
-        changes (step m call)
+    pub install-replies : {k : Card} {a : Answer} → Leaves k → a ≡ storedAnswer (refusedWith r) → _≡_ {A = Reply} (record { card = k; answer = a }) (replied (step m call))
+    install-replies e f =
+        replies (step m call)
         (e ∙ ap stored (sym (after-by m call refusal-is (unfold deskAfter in refl))))
-        (f ∙ ap doneOf (sym (answer-by m call refusal-is (unfold answer in refl))))
+        (f ∙ ap storedAnswer (sym (answer-by m call refusal-is (unfold answer in refl))))

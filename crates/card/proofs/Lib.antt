@@ -2,8 +2,7 @@
 pub mod Back
 pub mod Left
 pub mod Marks
-pub mod Reply
-pub mod OnPaper
+pub mod Replied
 pub mod Order
 pub mod Present
 pub mod Listeners

@@ -22,7 +22,7 @@ use Rattle.downloads.proofs.Shown.{changes-at, found-from, listened-meets}
 use Rattle.card.specs.declared.Card.{Card}
 use Rattle.card.specs.View.{view, Left}
 use Rattle.card.proofs.Left.{left-sound, left-bounds}
-use Rattle.card.proofs.Reply.{selectable-form, registered-form}
+use Rattle.card.proofs.Replied.{selectable-form, registered-form}
 
 module _ (c : Card) (left : Left c) where
   abbrev t : Tables

@@ -13,11 +13,11 @@ use Rattle.lists.proofs.Truth.{and-left}
 use Rattle.lists.proofs.Tables.{table-alike}
 use Rattle.sets.specs.Sets.{has?, meets, turnedSet}
 use Rattle.sets.proofs.Bits.{set-alike, set-has, set-lt}
-use Rattle.rules.specs.declared.Done.{Done}
+use Rattle.rules.specs.declared.Answer.{Answer}
 use Rattle.rules.specs.Holds.{Applet, Bounds, Tables, Model, withApplets, withSelectable}
-use Rattle.rules.specs.Held.{viewRows}
+use Rattle.rules.specs.Held.{viewRows, storedAnswer}
 use Rattle.rules.specs.Applets.{hasNumber, present, applet}
-use Rattle.rules.specs.Calls.{AdminCall, admin, lock, unlock, only}
+use Rattle.rules.specs.Calls.{AdminCall, admin, lock, unlock, accepted, refusedWith}
 use Rattle.rules.specs.Desk.{menuChanges, eventsChange, marked}
 use Rattle.rules.specs.Refusals.{lines, lowest, absent, adminLines, refusal}
 use Rattle.rules.specs.Step.{step, tablesAfter, adminTables, deskAfter, answer}
@@ -30,11 +30,11 @@ use Rattle.screen.proofs.MenuByApplets.{lock-menu}
 use Rattle.downloads.specs.Turns.{anyCode, codeTurns}
 use Rattle.downloads.proofs.Shown.{no-turn}
 use Rattle.card.specs.declared.Card.{Card}
-use Rattle.card.specs.declared.Changed.{Changed}
+use Rattle.card.specs.declared.Reply.{Reply}
 use Rattle.card.specs.View.{view, stored, Left}
-use Rattle.card.specs.Reply.{changedBy, doneOf}
+use Rattle.card.specs.Replies.{replied}
 use Rattle.card.proofs.Left.{left-sound, left-bounds}
-use Rattle.card.proofs.Reply.{changes, tablesBy, after-by, answer-by, next-card, selectable-form, registered-form, control-form}
+use Rattle.card.proofs.Replied.{replies, tablesBy, after-by, answer-by, next-card, selectable-form, registered-form, control-form}
 use Rattle.card.proofs.Marks.{withDue, unmarked}
 use Rattle.card.proofs.Present.{present-by, selectable-has, menu-same, events-none}
 use Rattle.card.proofs.Listeners.{set-is, codes-by}
@@ -131,7 +131,7 @@ module _ (c : Card) (left : Left c) (n : ℕ) (on : Bool) {there : Bool} (found 
   unfolding deskAfter
   still = refl
 
-  plain : answer m (admin (locking on n)) ≡ only 0
+  plain : answer m (admin (locking on n)) ≡ accepted
   unfolding answer
   plain = refl
 
@@ -183,20 +183,20 @@ module _ (c : Card) (left : Left c) (n : ℕ) (on : Bool) {there : Bool} (found 
       card-after true h = when-there h
       card-after false h = when-absent h
 
-      turns-lock : {a : Done} → a ≡ doneOf (only r)
-          → _≡_ {A = Changed}
+      turns-lock : {a : Answer} → a ≡ storedAnswer (refusedWith r)
+          → _≡_ {A = Reply}
           (record {
             card = record { roll = c .roll; selectable = s; registered = c .registered; made = c .made; control = c .control; rows = c .rows; bank = c .bank; desk = withDue (c .desk) x y };
             answer = a;
           })
-          (changedBy (step m (admin (locking on n))))
+          (replied (step m (admin (locking on n))))
       turns-lock e =
-          changes (step m (admin (locking on n))) (card-after there refl ∙ ap stored (sym (after-by m (admin (locking on n)) refusal-is still)))
-          (e ∙ ap doneOf (sym (answer-by m (admin (locking on n)) refusal-is plain)))
+          replies (step m (admin (locking on n))) (card-after there refl ∙ ap stored (sym (after-by m (admin (locking on n)) refusal-is still)))
+          (e ∙ ap storedAnswer (sym (answer-by m (admin (locking on n)) refusal-is plain)))
 
   -- the lock turns
   pub lock-turned
-      : {k : Card} {s : ℕ} {menu events x y : Bool} {a : Done}
+      : {k : Card} {s : ℕ} {menu events x y : Bool} {a : Answer}
       → (there && not (Bool·beq (has? (c .selectable) n) on)) ≡ true
       → s ≡ turnedSet (c .selectable) n on
       → menu ≡ (there && (not (Bool·beq (has? (c .selectable) n) on) && hasEnabledRow n (viewRows (c .rows))))
@@ -204,8 +204,8 @@ module _ (c : Card) (left : Left c) (n : ℕ) (on : Bool) {there : Bool} (found 
       → x ≡ (c .desk .session && menu || c .desk .due .menu)
       → y ≡ (c .desk .session && events || c .desk .due .events)
       → k ≡ record { roll = c .roll; selectable = s; registered = c .registered; made = c .made; control = c .control; rows = c .rows; bank = c .bank; desk = withDue (c .desk) x y }
-      → a ≡ doneOf (only r)
-      → _≡_ {A = Changed} (record { card = k; answer = a }) (changedBy (step m (admin (locking on n))))
+      → a ≡ storedAnswer (refusedWith r)
+      → _≡_ {A = Reply} (record { card = k; answer = a }) (replied (step m (admin (locking on n))))
   lock-turned {a = a} turns sets mv ev mx my is e =
       let here = and-left there (not (Bool·beq (has? (c .selectable) n) on)) turns in
       ap (λ (k : Card). record { card = k; answer = a }) is
@@ -213,11 +213,11 @@ module _ (c : Card) (left : Left c) (n : ℕ) (on : Bool) {there : Bool} (found 
 
   -- it does not: the applet is not there, or so already
   pub lock-still
-      : {k : Card} {a : Done}
+      : {k : Card} {a : Answer}
       → (there && not (Bool·beq (has? (c .selectable) n) on)) ≡ false
       → k ≡ c
-      → a ≡ doneOf (only r)
-      → _≡_ {A = Changed} (record { card = k; answer = a }) (changedBy (step m (admin (locking on n))))
+      → a ≡ storedAnswer (refusedWith r)
+      → _≡_ {A = Reply} (record { card = k; answer = a }) (replied (step m (admin (locking on n))))
   lock-still {a = a} still is e =
       ap (λ (k : Card). record { card = k; answer = a }) is
       ∙ turns-lock (kept there (Bool·beq (has? (c .selectable) n) on) refl still)

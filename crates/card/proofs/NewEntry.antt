@@ -10,14 +10,14 @@ use lib.Seq.{take-all}
 use borrow.Author.Tests.{ne-eqb}
 use Rattle.lists.specs.Tests.{if_then_else_, _==_, _≤?_}
 use Rattle.sets.specs.Sets.{has?}
-use Rattle.rules.specs.declared.Given.{Given}
+use Rattle.rules.specs.declared.Answer.{Answer}
 use Rattle.rules.specs.declared.Grant.{Grant}
 use Rattle.rules.specs.declared.Pair.{Pair}
 use Rattle.rules.specs.Holds.{Applet, Row, Bounds, Tables, withOneMore}
-use Rattle.rules.specs.Held.{viewRows, storedRows}
+use Rattle.rules.specs.Held.{viewRows, storedRows, storedAnswer}
 use Rattle.rules.specs.Applets.{nobody, present, applet, entries}
 use Rattle.rules.specs.Rows.{noPair, nextPair, nextIdentifier, withEntry}
-use Rattle.rules.specs.Calls.{entry, newEntry, only, numbered}
+use Rattle.rules.specs.Calls.{entry, newEntry, accepted, refusedWith, numbered}
 use Rattle.rules.specs.Refusals.{line, lowest, refusal}
 use Rattle.rules.specs.Step.{step, outcome, entryTables, answer, entryAnswer}
 use Rattle.runs.specs.Sound.{SoundTables}
@@ -35,11 +35,11 @@ use Rattle.downloads.proofs.Quiet.{entry-events}
 use Rattle.refusals.specs.Lines.{unfitText}
 use Rattle.refusals.proofs.Calls.{new-refusal}
 use Rattle.card.specs.declared.Card.{Card}
-use Rattle.card.specs.declared.Numbered.{Numbered}
+use Rattle.card.specs.declared.Reply.{Reply}
 use Rattle.card.specs.View.{view, stored, Left}
-use Rattle.card.specs.Reply.{numberedBy, givenOf}
+use Rattle.card.specs.Replies.{replied}
 use Rattle.card.proofs.Left.{left-sound, left-bounds}
-use Rattle.card.proofs.Reply.{gives, made-form}
+use Rattle.card.proofs.Replied.{replies, made-form}
 use Rattle.card.proofs.Present.{present-by, grant-is, made-is}
 use Rattle.card.proofs.EntryRows.{withEntries, entry-after, entry-refused, entry-card, selectable-there}
 
@@ -78,17 +78,17 @@ module _ (c : Card) (left : Left c) (n : ℕ) (help : Bool) (text : List ℕ) {t
         (ap (λ (h : Grant). h .entries) grant-of) made-of (ap (λ (h : Grant). h .text) grant-of) fit e
 
     -- the answer: the identifier of the row
-    gives-number : {i : ℕ} {a : Given} → (r ≡ 0 → i ≡ nextIdentifier x (t .rows)) → a ≡ givenOf (if r == 0 then numbered i else only r) → a ≡ givenOf (step (view c) (entry (newEntry n help text)) .answer)
+    gives-number : {i : ℕ} {a : Answer} → (r ≡ 0 → i ≡ nextIdentifier x (t .rows)) → a ≡ storedAnswer (if r == 0 then numbered i else refusedWith r) → a ≡ storedAnswer (step (view c) (entry (newEntry n help text)) .answer)
     unfolding step
-    gives-number {i} f says = says ∙ go r f ∙ ap (λ (m : ℕ). givenOf (outcome m (view c) (entry (newEntry n help text)) .answer)) is-new
+    gives-number {i} f says = says ∙ go r f ∙ ap (λ (m : ℕ). storedAnswer (outcome m (view c) (entry (newEntry n help text)) .answer)) is-new
       where
-        go : (m : ℕ) → (m ≡ 0 → i ≡ nextIdentifier x (t .rows)) → givenOf (if m == 0 then numbered i else only m) ≡ givenOf (outcome m (view c) (entry (newEntry n help text)) .answer)
-        go zero f = unfold outcome answer entryAnswer in ap (λ (k : ℕ). givenOf (numbered k)) (f refl)
-        go (suc m) f = unfold outcome in ap (λ (b : Bool). givenOf (if b then numbered i else only (suc m))) (ne-eqb (suc m) 0 (λ h. omega arith))
+        go : (m : ℕ) → (m ≡ 0 → i ≡ nextIdentifier x (t .rows)) → storedAnswer (if m == 0 then numbered i else refusedWith m) ≡ storedAnswer (outcome m (view c) (entry (newEntry n help text)) .answer)
+        go zero f = unfold outcome answer entryAnswer in ap (λ (k : ℕ). storedAnswer (numbered k)) (f refl)
+        go (suc m) f = unfold outcome in ap (λ (b : Bool). storedAnswer (if b then numbered i else refusedWith (suc m))) (ne-eqb (suc m) 0 (λ h. omega arith))
 
-    pub new-refused : (i : ℕ) {a : Given} {s : Card} → a ≡ givenOf (if r == 0 then numbered i else only r) → (r ≡ 0 → ⊥) → s ≡ c → _≡_ {A = Numbered} (record { card = s; answer = a }) (numberedBy (step (view c) (entry (newEntry n help text))))
+    pub new-refused : (i : ℕ) {a : Answer} {s : Card} → a ≡ storedAnswer (if r == 0 then numbered i else refusedWith r) → (r ≡ 0 → ⊥) → s ≡ c → _≡_ {A = Reply} (record { card = s; answer = a }) (replied (step (view c) (entry (newEntry n help text))))
     new-refused i says z is =
-        gives (step (view c) (entry (newEntry n help text))) (is ∙ entry-refused c left (newEntry n help text) is-new z) (gives-number (λ h. absurd (z h)) says)
+        replies (step (view c) (entry (newEntry n help text))) (is ∙ entry-refused c left (newEntry n help text) is-new z) (gives-number (λ h. absurd (z h)) says)
 
     module _ (z : r ≡ 0) where
       news : NewEntry t n text
@@ -112,8 +112,8 @@ module _ (c : Card) (left : Left c) (n : ℕ) (help : Bool) (text : List ℕ) {t
       u = entryTables t (newEntry n help text)
 
       pub new-accepted
-          : {p : Pair} {i : ℕ} {e : Added} {more : List ℕ} {turns y : Bool} {s : Card} {a : Given}
-          → a ≡ givenOf (if r == 0 then numbered i else only r)
+          : {p : Pair} {i : ℕ} {e : Added} {more : List ℕ} {turns y : Bool} {s : Card} {a : Answer}
+          → a ≡ storedAnswer (if r == 0 then numbered i else refusedWith r)
           → p ≡ getD (g .pairs) k noPair
           → e ≡ enteredBy p n help text (viewRows (c .rows))
           → more ≡ madeWith (c .made) n (k + 1)
@@ -121,7 +121,7 @@ module _ (c : Card) (left : Left c) (n : ℕ) (help : Bool) (text : List ℕ) {t
           → y ≡ (c .desk .session && turns || c .desk .due .menu)
           → s ≡ withEntries c more (e .rows) y
           → i ≡ e .identifier
-          → _≡_ {A = Numbered} (record { card = s; answer = a }) (numberedBy (step (view c) (entry (newEntry n help text))))
+          → _≡_ {A = Reply} (record { card = s; answer = a }) (replied (step (view c) (entry (newEntry n help text))))
       unfolding entryTables view present applet
       new-accepted {p} {e = e} says pp ee mm tu y is ii =
           let here = news .here in
@@ -129,7 +129,7 @@ module _ (c : Card) (left : Left c) (n : ℕ) (help : Bool) (text : List ℕ) {t
           let both : e ≡ record { rows = storedRows (withEntry x help text (t .rows)); identifier = nextIdentifier x (t .rows) } = ee ∙ entered-is x n help text (t .rows) (has-its-number t n here) pair whole room in
           let l = t .applets in
           let one : k + 1 ≡ suc (x .made) = omega (arith, made-of) in
-          gives (step (view c) (entry (newEntry n help text)))
+          replies (step (view c) (entry (newEntry n help text)))
           (is
           ∙ entry-card c left u
           (roll-kept l n withOneMore here (λ x. refl))

@@ -16,7 +16,7 @@ use Rattle.applets.proofs.Order.{length-order}
 use Rattle.card.specs.declared.Card.{Card}
 use Rattle.card.specs.View.{view, Left}
 use Rattle.card.proofs.Left.{left-sound, left-bounds}
-use Rattle.card.proofs.Reply.{roll-form}
+use Rattle.card.proofs.Replied.{roll-form}
 
 module _ (c : Card) (left : Left c) where
   abbrev l : List Applet

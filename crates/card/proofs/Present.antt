@@ -21,7 +21,7 @@ use Rattle.downloads.proofs.Shown.{events-same}
 use Rattle.card.specs.declared.Card.{Card}
 use Rattle.card.specs.View.{view, Left}
 use Rattle.card.proofs.Left.{left-sound, left-bounds}
-use Rattle.card.proofs.Reply.{roll-form, selectable-form, made-form}
+use Rattle.card.proofs.Replied.{roll-form, selectable-form, made-form}
 
 -- whether an applet is there, by the set of those present
 pub present-by : (c : Card) (left : Left c) (n : ℕ) → has? (c .roll .present) n ≡ present (view c .tables) n

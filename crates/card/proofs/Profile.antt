@@ -3,21 +3,21 @@
 use Prim.Native.Nat.{ℕ, zero, suc}
 use native.Mathlib.Omega.{arith}
 use mathlib.Core.Path.{_≡_, refl, sym, ap, ap₂, _∙_}
-use mathlib.Core.Bool.{Bool}
+use mathlib.Core.Bool.{Bool, false}
 use mathlib.Core.List.{List, [], _∷_}
 use lib.ListN.{length, take, getD}
 use borrow.Author.Tests.{ne-eqb}
 use Rattle.lists.specs.Tests.{_==_}
 use Rattle.lists.specs.Lists.{empty?, keep}
 use Rattle.sets.specs.Sets.{has?}
-use Rattle.rules.specs.declared.Called.{Called}
+use Rattle.rules.specs.declared.Answer.{Answer}
 use Rattle.rules.specs.declared.Desk as held-desk
 use Rattle.rules.specs.declared.Due.{Due}
 use Rattle.rules.specs.declared.Marks.{Marks}
 use Rattle.rules.specs.Holds.{Desk, Model}
-use Rattle.rules.specs.Held.{viewRows}
+use Rattle.rules.specs.Held.{viewRows, storedAnswer}
 use Rattle.rules.specs.Events.{profileDownload}
-use Rattle.rules.specs.Arrivals.{called, profileArrival, proactiveOnly}
+use Rattle.rules.specs.Arrivals.{called, profileArrival, otherMarks}
 use Rattle.rules.specs.Calls.{Call, arrival, profile, calling}
 use Rattle.rules.specs.Desk.{shownSome, withProfile}
 use Rattle.rules.specs.Refusals.{line, lowest, lines, arrivalLines, refusal}
@@ -33,11 +33,11 @@ use Rattle.arrivals.specs.Whom.{calledSet}
 use Rattle.arrivals.specs.Answers.{answering, Begins}
 use Rattle.arrivals.proofs.IsFor.{for-event}
 use Rattle.card.specs.declared.Card.{Card}
-use Rattle.card.specs.declared.Arrived.{Arrived}
+use Rattle.card.specs.declared.Reply.{Reply}
 use Rattle.card.specs.View.{view, stored, Left}
-use Rattle.card.specs.Reply.{arrivedBy, calledOf}
+use Rattle.card.specs.Replies.{replied}
 use Rattle.card.proofs.Left.{left-form, left-sound, left-bounds}
-use Rattle.card.proofs.Reply.{arrives, card-is, roll-form, selectable-form, registered-form, made-form, control-form, rows-form, bank-form, desk-form}
+use Rattle.card.proofs.Replied.{replies, card-is, roll-form, selectable-form, registered-form, made-form, control-form, rows-form, bank-form, desk-form}
 use Rattle.card.proofs.Calling.{answers}
 
 no-bytes : (bytes : List ℕ) → (length bytes == 0) ≡ empty? bytes
@@ -56,8 +56,8 @@ module _ (c : Card) (left : Left c) (bytes : List ℕ) where
   unfolding refusal lines arrivalLines
   refusal-is = ap (λ (b : Bool). lowest (line 1 b ∷ [])) (no-bytes bytes)
 
-  accepted : answer m it ≡ calling (called (m .tables) profileArrival) proactiveOnly
-  unfolding answer arrivalAnswer
+  accepted : answer m it ≡ calling (called (m .tables) profileArrival) (otherMarks false)
+  unfolding answer arrivalAnswer arrivalDesk withProfile
   accepted = refl
 
   -- what is shown is due
@@ -78,16 +78,16 @@ module _ (c : Card) (left : Left c) (bytes : List ℕ) where
 
   -- PROFILE, by what the parts of the code say
   module _
-      {r s : ℕ} {k : Callees} {marks : Marks} {b : Called}
+      {r s : ℕ} {k : Callees} {marks : Marks} {b : Answer}
       (e : r ≡ lowest (line 1 (length bytes == 0) ∷ []))
       (p : s ≡ calledSet r (getD (c .registered) profileDownload 0) (c .selectable))
       (q : k ≡ calleesOf (keep (has? s) (take (c .roll .count) (c .roll .order))))
-      (g : marks ≡ proactiveOnly)
+      (g : marks ≡ otherMarks false)
       (h : b ≡ answering r k marks)
     where
-      answer-is : b ≡ calledOf (step m it .answer)
+      answer-is : b ≡ storedAnswer (step m it .answer)
       answer-is =
-          answers c left profileArrival (for-event (m .tables) (registered-form c left) profileDownload (omega arith) (λ z. omega arith)) it proactiveOnly accepted
+          answers c left profileArrival (for-event (m .tables) (registered-form c left) profileDownload (omega arith) (λ z. omega arith)) it (otherMarks false) accepted
           (e ∙ refusal-is) p q (h ∙ ap (λ (x : Marks). answering r k x) g)
 
       after-is : {j : ℕ} → r ≡ j → step m it .after ≡ outcome j m it .after
@@ -100,21 +100,21 @@ module _ (c : Card) (left : Left c) (bytes : List ℕ) where
           → events ≡ anyCode (isListened (c .registered) (c .selectable))
           → Begins bytes (record { menu = menu; events = events }) (c .desk) d
           → r ≡ 0
-          → _≡_ {A = Arrived}
+          → _≡_ {A = Reply}
           (record { card = record { roll = c .roll; selectable = c .selectable; registered = c .registered; made = c .made; control = c .control; rows = c .rows; bank = c .bank; desk = d }; answer = b })
-          (arrivedBy (step m it))
+          (replied (step m it))
       unfolding outcome
       begins-session x y f z =
-          arrives (step m it)
+          replies (step m it)
           (rw (after-is z, begun-is)
           (card-is (record { tables = m .tables; desk = withProfile (m .tables) bytes (m .desk) })
           (roll-form c left) (selectable-form c left) (registered-form c left) (made-form c left) (control-form c left) (rows-form c left) (bank-form c left)
           (f (m .tables) (m .desk) (due-is x y) (desk-form c left))))
           answer-is
 
-      pub refuses-profile : (r ≡ 0 → ⊥) → _≡_ {A = Arrived} (record { card = c; answer = b }) (arrivedBy (step m it))
+      pub refuses-profile : (r ≡ 0 → ⊥) → _≡_ {A = Reply} (record { card = c; answer = b }) (replied (step m it))
       unfolding outcome
-      refuses-profile n = arrives (step m it) (left-form c left ∙ ap stored (sym (go r refl))) answer-is
+      refuses-profile n = replies (step m it) (left-form c left ∙ ap stored (sym (go r refl))) answer-is
         where
           go : (j : ℕ) → r ≡ j → step m it .after ≡ m
           go zero z = absurd (n z)

@@ -9,12 +9,12 @@ use borrow.Author.Tests.{ne-eqb}
 use Rattle.lists.specs.Tests.{if_then_else_, _==_}
 use Rattle.sets.specs.Sets.{has?}
 use Rattle.rules.specs.declared.Command.{Command}
-use Rattle.rules.specs.declared.Done.{Done}
+use Rattle.rules.specs.declared.Answer.{Answer}
 use Rattle.rules.specs.declared.Desk as held
 use Rattle.rules.specs.Holds.{Tables, Desk, Model}
-use Rattle.rules.specs.Held.{viewDesk, storedDesk}
+use Rattle.rules.specs.Held.{viewDesk, storedDesk, storedAnswer}
 use Rattle.rules.specs.Envelopes.{commandOf}
-use Rattle.rules.specs.Calls.{ProactiveCall, proactive, send, response, only}
+use Rattle.rules.specs.Calls.{ProactiveCall, proactive, send, response, accepted, refusedWith}
 use Rattle.rules.specs.Desk.{withOutstanding}
 use Rattle.rules.specs.Refusals.{refusal, line, lines, lowest, proactiveLines}
 use Rattle.rules.specs.Step.{step, outcome, changed, tablesAfter, deskAfter, proactiveDesk, answer}
@@ -22,11 +22,11 @@ use Rattle.rules.proofs.DueMarks.{marked-same}
 use Rattle.refusals.specs.Lines.{sendRefusal}
 use Rattle.refusals.proofs.Calls.{send-is}
 use Rattle.card.specs.declared.Card.{Card}
-use Rattle.card.specs.declared.Changed.{Changed}
+use Rattle.card.specs.declared.Reply.{Reply}
 use Rattle.card.specs.View.{view, stored, Left}
-use Rattle.card.specs.Reply.{changedBy, doneOf}
+use Rattle.card.specs.Replies.{replied}
 use Rattle.card.proofs.Left.{left-form}
-use Rattle.card.proofs.Reply.{changes, answer-by, card-is, roll-form, selectable-form, registered-form, made-form, control-form, rows-form, bank-form, desk-form}
+use Rattle.card.proofs.Replied.{replies, answer-by, card-is, roll-form, selectable-form, registered-form, made-form, control-form, rows-form, bank-form, desk-form}
 use Rattle.card.proofs.Present.{present-by}
 
 -- the card with another desk
@@ -58,34 +58,34 @@ module _ (c : Card) (l : Left c) where
     by-refusal zero = rw (desk-is, marked-same (m .tables) (withOutstanding is (m .desk))) (desk-card c l (withOutstanding is (m .desk)) (waiting-form is))
     by-refusal (suc k) = rw (ne-eqb (suc k) 0 (λ z. omega arith)) (left-form c l)
 
-    plain : answer m (proactive p) ≡ only 0
+    plain : answer m (proactive p) ≡ accepted
     unfolding answer
     plain = refl
 
-    pub waits : {b : Bool} {a : Done} → b ≡ (if r == 0 then is else c .desk .outstanding) → a ≡ doneOf (only r)
-        → _≡_ {A = Changed} (record { card = withDesk c (waiting (c .desk) b); answer = a }) (changedBy (step m (proactive p)))
+    pub waits : {b : Bool} {a : Answer} → b ≡ (if r == 0 then is else c .desk .outstanding) → a ≡ storedAnswer (refusedWith r)
+        → _≡_ {A = Reply} (record { card = withDesk c (waiting (c .desk) b); answer = a }) (replied (step m (proactive p)))
     unfolding step
     waits q s =
-        changes (step m (proactive p))
+        replies (step m (proactive p))
         (ap (λ (b : Bool). withDesk c (waiting (c .desk) b)) q ∙ by-refusal r ∙ ap (λ (k : ℕ). stored (outcome k m (proactive p) .after)) e)
-        (s ∙ ap doneOf (sym (answer-by m (proactive p) e plain)))
+        (s ∙ ap storedAnswer (sym (answer-by m (proactive p) e plain)))
 
   -- RESPONSE
-  pub responds : {r : ℕ} {b : Bool} {a : Done}
+  pub responds : {r : ℕ} {b : Bool} {a : Answer}
       → r ≡ lowest (line 19 (not (c .desk .outstanding)) ∷ [])
       → b ≡ (if r == 0 then false else c .desk .outstanding)
-      → a ≡ doneOf (only r)
-      → _≡_ {A = Changed} (record { card = withDesk c (waiting (c .desk) b); answer = a }) (changedBy (step m (proactive response)))
+      → a ≡ storedAnswer (refusedWith r)
+      → _≡_ {A = Reply} (record { card = withDesk c (waiting (c .desk) b); answer = a }) (replied (step m (proactive response)))
   unfolding proactiveDesk refusal lines proactiveLines view viewDesk
   responds e = waits response false refl e
 
   -- SEND
-  pub sends : (n : ℕ) (bytes : List ℕ) {k : Command} {there : Bool} {r : ℕ} {b : Bool} {a : Done}
+  pub sends : (n : ℕ) (bytes : List ℕ) {k : Command} {there : Bool} {r : ℕ} {b : Bool} {a : Answer}
       → k ≡ commandOf bytes
       → there ≡ has? (c .roll .present) n
       → ((t : Tables) → t .timers ≡ c .bank .owner → r ≡ sendRefusal t n there (c .desk .outstanding) k)
       → b ≡ (if r == 0 then true else c .desk .outstanding)
-      → a ≡ doneOf (only r)
-      → _≡_ {A = Changed} (record { card = withDesk c (waiting (c .desk) b); answer = a }) (changedBy (step m (proactive (send n bytes))))
+      → a ≡ storedAnswer (refusedWith r)
+      → _≡_ {A = Reply} (record { card = withDesk c (waiting (c .desk) b); answer = a }) (replied (step m (proactive (send n bytes))))
   unfolding proactiveDesk view viewDesk
   sends n bytes says found by = waits (send n bytes) true refl (send-is m n (found ∙ present-by c l n) bytes says (by (m .tables) refl))

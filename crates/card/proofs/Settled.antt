@@ -14,13 +14,13 @@ use Rattle.lists.proofs.Tables.{table-at}
 use Rattle.lists.proofs.Truth.{and-true}
 use Rattle.sets.specs.Sets.{has?, setBoth, setWithout}
 use Rattle.sets.proofs.Bits.{has-set, has-empty, set-alike}
-use Rattle.rules.specs.declared.Called.{Called}
+use Rattle.rules.specs.declared.Answer.{Answer}
 use Rattle.rules.specs.declared.Marks.{Marks}
 use Rattle.rules.specs.Holds.{Applet, Model, withApplets}
 use Rattle.rules.specs.Held.{viewDesk}
 use Rattle.rules.specs.Events.{handlerAvailable}
 use Rattle.rules.specs.Applets.{usedUp}
-use Rattle.rules.specs.Arrivals.{called, settledArrival, proactiveOnly}
+use Rattle.rules.specs.Arrivals.{called, settledArrival, otherMarks}
 use Rattle.rules.specs.Calls.{settled, calling}
 use Rattle.rules.specs.Desk.{marked}
 use Rattle.rules.specs.Refusals.{line, lowest, lines, refusal}
@@ -35,11 +35,11 @@ use Rattle.arrivals.specs.Whom.{calledSet}
 use Rattle.arrivals.specs.Answers.{answering}
 use Rattle.arrivals.proofs.IsFor.{for-event}
 use Rattle.card.specs.declared.Card.{Card}
-use Rattle.card.specs.declared.Arrived.{Arrived}
+use Rattle.card.specs.declared.Reply.{Reply}
 use Rattle.card.specs.View.{view, stored, Left}
-use Rattle.card.specs.Reply.{arrivedBy}
+use Rattle.card.specs.Replies.{replied}
 use Rattle.card.proofs.Marks.{unmarked}
-use Rattle.card.proofs.Reply.{arrives, tablesBy, after-by, next-card, selectable-form, registered-form, control-form}
+use Rattle.card.proofs.Replied.{replies, tablesBy, after-by, next-card, selectable-form, registered-form, control-form}
 use Rattle.card.proofs.Present.{menu-same, events-none}
 use Rattle.card.proofs.Calling.{answers}
 
@@ -107,24 +107,24 @@ module _ (c : Card) (left : Left c) where
   unfolding deskAfter
   still = refl
 
-  accepted : answer m settled ≡ calling (called (m .tables) settledArrival) proactiveOnly
-  unfolding answer
+  accepted : answer m settled ≡ calling (called (m .tables) settledArrival) (otherMarks (c .desk .outstanding))
+  unfolding answer view viewDesk
   accepted = refl
 
   -- SETTLED, by what the parts of the code say
   pub settles
-      : {r s o : ℕ} {k : Callees} {marks : Marks} {b : Called}
+      : {r s o : ℕ} {k : Callees} {marks : Marks} {b : Answer}
       → r ≡ lowest (line 16 (c .desk .outstanding) ∷ [])
       → s ≡ calledSet r waiting (c .selectable)
       → o ≡ setWithout waiting s
       → k ≡ calleesOf (keep (has? s) (take (c .roll .count) (c .roll .order)))
-      → marks ≡ proactiveOnly
+      → marks ≡ otherMarks (c .desk .outstanding)
       → b ≡ answering r k marks
-      → _≡_ {A = Arrived} (record { card = left-card (set (c .registered) handlerAvailable o); answer = b }) (arrivedBy (step m settled))
+      → _≡_ {A = Reply} (record { card = left-card (set (c .registered) handlerAvailable o); answer = b }) (replied (step m settled))
   settles {r} {s} {k = k} e p q f g h =
-      arrives (step m settled)
+      replies (step m settled)
       (ap (λ (n : ℕ). left-card (set (c .registered) handlerAvailable n)) (q ∙ ap (setWithout waiting) p)
       ∙ card-after r
       ∙ ap stored (sym (after-by m settled (e ∙ refusal-is) still)))
-      (answers c left settledArrival (for-event (m .tables) (registered-form c left) handlerAvailable (omega arith) (λ z. omega arith)) settled proactiveOnly accepted
+      (answers c left settledArrival (for-event (m .tables) (registered-form c left) handlerAvailable (omega arith) (λ z. omega arith)) settled (otherMarks (c .desk .outstanding)) accepted
       (e ∙ refusal-is) p f (h ∙ ap (λ (x : Marks). answering r k x) g))

@@ -9,8 +9,7 @@ use borrow.Author.Tests.{le-leb, ne-eqb}
 use Rattle.lists.specs.Tests.{if_then_else_}
 use Rattle.sets.specs.Sets.{has?}
 use Rattle.rules.specs.declared.Bank.{Bank}
-use Rattle.rules.specs.declared.Done.{Done}
-use Rattle.rules.specs.declared.Given.{Given}
+use Rattle.rules.specs.declared.Answer.{Answer}
 use Rattle.rules.specs.declared.Grant.{Grant}
 use Rattle.rules.specs.Holds.{Model, withTimers}
 use Rattle.rules.specs.Applets.{present, applet, nobody}
@@ -22,18 +21,17 @@ use Rattle.rules.specs.Desk.{marked}
 use Rattle.rules.specs.Refusals.{refusal, lines, lowest, timerLines, absent}
 use Rattle.rules.specs.Step.{step, outcome, changed, tablesAfter, deskAfter, timerTables, answer, timerAnswer}
 use Rattle.timers.specs.Promises.{Allocates, Releases}
-use Rattle.timers.proofs.Settled as settled
 use Rattle.screen.proofs.MenuByApplets.{kept-menu}
 use Rattle.downloads.proofs.Quiet.{timers-events}
 use Rattle.applets.specs.ByNumber.{byNumber, grantOf}
 use Rattle.card.specs.declared.Card.{Card}
-use Rattle.card.specs.declared.Changed.{Changed}
-use Rattle.card.specs.declared.Numbered.{Numbered}
+use Rattle.card.specs.declared.Reply.{Reply}
 use Rattle.card.specs.View.{view, stored, Left}
-use Rattle.card.specs.Reply.{changedBy, numberedBy, doneOf, givenOf}
+use Rattle.card.specs.Replies.{replied}
+use Rattle.rules.specs.Held.{storedAnswer}
 use Rattle.card.proofs.Left.{left-form}
 use Rattle.card.proofs.Marks.{due-desk, unmarked}
-use Rattle.card.proofs.Reply.{changes, gives, card-is, roll-form, selectable-form, registered-form, made-form, control-form, rows-form, desk-form}
+use Rattle.card.proofs.Replied.{replies, card-is, roll-form, selectable-form, registered-form, made-form, control-form, rows-form, desk-form}
 use Rattle.card.proofs.Present.{present-by, grant-is, low-is, high-is}
 
 -- the card with another bank
@@ -86,20 +84,20 @@ module _ (c : Card) (l : Left c) where
       by-refusal zero = with-timers (withAllocated os n)
       by-refusal (suc k) = left-form c l
 
-      answered : (k : ℕ) → settled.givenOf (allocateBy k os n .answer .refusal) (allocateBy k os n .answer .number) ≡ givenOf (outcome k m (timer (allocate n)) .answer)
-      unfolding allocateBy outcome answer timerAnswer givenOf view
+      answered : (k : ℕ) → allocateBy k os n .answer ≡ outcome k m (timer (allocate n)) .answer
+      unfolding allocateBy outcome answer timerAnswer view
       answered zero = refl
-      answered (suc k) = rw (ne-eqb (suc k) 0 (λ z. omega arith)) refl
+      answered (suc k) = refl
 
-      pub allocates : {owner : ℕ} {a : Given} {b : Bank} → owner ≡ (if there then n else 0) → Allocates (c .bank) owner (g .timers) a b
-          → _≡_ {A = Numbered} (record { card = withBank c b; answer = a }) (numberedBy (step m (timer (allocate n))))
+      pub allocates : {owner : ℕ} {a : Answer} {b : Bank} → owner ≡ (if there then n else 0) → Allocates (c .bank) owner (g .timers) a b
+          → _≡_ {A = Reply} (record { card = withBank c b; answer = a }) (replied (step m (timer (allocate n))))
       unfolding step
       allocates {owner} {a} {b} o e =
           let k = refusal m (timer (allocate n)) in
           let same : bankAllocate os owner (g .timers) ≡ allocateBy k os n = ap (λ (z : ℕ). bankAllocate os z (g .timers)) o ∙ by-bank there refl in
-          gives (step m (timer (allocate n)))
-          (ap (withBank c) (settled.allocates-owners (c .bank) owner (g .timers) a b e ∙ ap (λ (x : BankOutcome). record { owner = x .owners }) same) ∙ by-refusal k)
-          (settled.allocates-answer (c .bank) owner (g .timers) a b e ∙ ap (λ (x : BankOutcome). settled.givenOf (x .answer .refusal) (x .answer .number)) same ∙ answered k)
+          replies (step m (timer (allocate n)))
+          (ap (withBank c) (e .1 ∙ ap (λ (x : BankOutcome). record { owner = x .owners }) same) ∙ by-refusal k)
+          (e .0 ∙ ap (λ (x : BankOutcome). storedAnswer (x .answer)) same ∙ ap storedAnswer (answered k))
 
     -- RELEASE
     module _ (i : ℕ) where
@@ -113,17 +111,17 @@ module _ (c : Card) (l : Left c) where
       freed-by-refusal zero = with-timers (withReleased os i)
       freed-by-refusal (suc k) = left-form c l
 
-      freed-answered : (k : ℕ) → settled.doneOf (releaseBy k os i .answer .refusal) ≡ doneOf (outcome k m (timer (release n i)) .answer)
-      unfolding releaseBy outcome answer timerAnswer doneOf
+      freed-answered : (k : ℕ) → releaseBy k os i .answer ≡ outcome k m (timer (release n i)) .answer
+      unfolding releaseBy outcome answer timerAnswer
       freed-answered zero = refl
-      freed-answered (suc k) = rw (ne-eqb (suc k) 0 (λ z. omega arith)) refl
+      freed-answered (suc k) = refl
 
-      pub releases : {owner : ℕ} {a : Done} {b : Bank} → owner ≡ (if there then n else 0) → Releases (c .bank) owner i a b
-          → _≡_ {A = Changed} (record { card = withBank c b; answer = a }) (changedBy (step m (timer (release n i))))
+      pub releases : {owner : ℕ} {a : Answer} {b : Bank} → owner ≡ (if there then n else 0) → Releases (c .bank) owner i a b
+          → _≡_ {A = Reply} (record { card = withBank c b; answer = a }) (replied (step m (timer (release n i))))
       unfolding step
       releases {owner} {a} {b} o e =
           let k = refusal m (timer (release n i)) in
           let same : bankRelease os owner 0 i ≡ releaseBy k os i = ap (λ (z : ℕ). bankRelease os z 0 i) o ∙ freed-by-bank there refl in
-          changes (step m (timer (release n i)))
-          (ap (withBank c) (settled.releases-owners (c .bank) owner i 0 a b e ∙ ap (λ (x : BankOutcome). record { owner = x .owners }) same) ∙ freed-by-refusal k)
-          (settled.releases-answer (c .bank) owner i 0 a b e ∙ ap (λ (x : BankOutcome). settled.doneOf (x .answer .refusal)) same ∙ freed-answered k)
+          replies (step m (timer (release n i)))
+          (ap (withBank c) (e 0 .1 ∙ ap (λ (x : BankOutcome). record { owner = x .owners }) same) ∙ freed-by-refusal k)
+          (e 0 .0 ∙ ap (λ (x : BankOutcome). storedAnswer (x .answer)) same ∙ ap storedAnswer (freed-answered k))

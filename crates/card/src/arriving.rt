@@ -1,14 +1,14 @@
 // The arrivals: settled moments, profiles and envelopes. Each answers with the applets called and the handlers available to them.
 // Each has one way through: a refused one calls nobody and leaves the card.
-use crate::Arrived;
 use crate::Card;
+use crate::Reply;
 use rules::Due;
 use rules::Kind;
+use rules::refused;
 ghost use mathlib.Core.Path.{_≡_};
 ghost use Rattle.rules.specs.Calls.{arrival, envelope, profile, settled};
-ghost use Rattle.rules.specs.Step.{step};
-ghost use Rattle.card.specs.View.{view, Left};
-ghost use Rattle.card.specs.Reply.{arrivedBy};
+ghost use Rattle.card.specs.View.{Left};
+ghost use Rattle.card.specs.Replies.{Replies};
 
 // The places of those who wait for the proactive handler, and of those who take profiles.
 const WAITING: usize = Kind::HANDLER_AVAILABLE as usize;
@@ -17,12 +17,12 @@ const PROFILED: usize = Kind::PROFILE_DOWNLOAD as usize;
 
 impl Card {
     // Calls those registered to proactive handler available, and unregisters just these.
-    pub fn settled(self) -> Arrived
+    pub fn settled(self) -> Reply
         requires { ⌜ Left self ⌝ }
-        ensures { λ r. ⌜ r ≡ arrivedBy (step (view self) settled) ⌝ }
+        ensures { λ r. ⌜ Replies self settled r ⌝ }
     {
         let mut left = self;
-        let refusal = arrivals::refusal_if(left.desk.outstanding, 16);
+        let refusal = arrivals::refusal_if(left.desk.outstanding, refused::OUTSTANDING);
         let mut registered = left.registered;
         let whom = registered[WAITING];
         let who = arrivals::called(refusal, whom, left.selectable);
@@ -31,25 +31,25 @@ impl Card {
         left.registered = registered;
         let order = left.roll.order;
         let callees = applets::listed(order, left.roll.count, who);
-        let marks = arrivals::proactive_only();
+        let marks = arrivals::other_marks(left.desk.outstanding);
         let answer = arrivals::answered(refusal, callees, marks);
-        Arrived { card: left, answer }
+        Reply { card: left, answer }
     }
 
     // Begins a session with the terminal's profile, and calls those registered to profile download.
-    pub fn profile(self, bytes: &[u8]) -> Arrived
+    pub fn profile(self, bytes: &[u8]) -> Reply
         requires { ⌜ Left self ⌝ }
-        ensures { λ r. ⌜ r ≡ arrivedBy (step (view self) (arrival (profile (now (bytes .entry))))) ⌝ }
+        ensures { λ r. ⌜ Replies self (arrival (profile (now (bytes .entry)))) r ⌝ }
     {
         let mut left = self;
         let none = bytes.len() == 0;
-        let refusal = arrivals::refusal_if(none, 1);
+        let refusal = arrivals::refusal_if(none, refused::MALFORMED);
         let registered = left.registered;
         let whom = registered[PROFILED];
         let who = arrivals::called(refusal, whom, left.selectable);
         let order = left.roll.order;
         let callees = applets::listed(order, left.roll.count, who);
-        let marks = arrivals::proactive_only();
+        let marks = arrivals::other_marks(false);
         let answer = arrivals::answered(refusal, callees, marks);
         let rows = left.rows;
         let menu = screen::has_shown_row(rows, left.selectable);
@@ -60,17 +60,17 @@ impl Card {
         if refusal == 0 {
             left.desk = next;
         }
-        Arrived { card: left, answer }
+        Reply { card: left, answer }
     }
 
     // Calls those whom an envelope is for.
-    pub fn envelope(self, bytes: &[u8]) -> Arrived
+    pub fn envelope(self, bytes: &[u8]) -> Reply
         requires { ⌜ Left self ⌝ }
-        ensures { λ r. ⌜ r ≡ arrivedBy (step (view self) (arrival (envelope (now (bytes .entry))))) ⌝ }
+        ensures { λ r. ⌜ Replies self (arrival (envelope (now (bytes .entry)))) r ⌝ }
     {
         let e = envelopes::read_envelope(bytes);
         let bad = envelopes::is_bad(e);
-        let refusal = arrivals::refusal_if(bad, 1);
+        let refusal = arrivals::refusal_if(bad, refused::MALFORMED);
         let rows = self.rows;
         let registered = self.registered;
         let bank = self.bank;
@@ -80,6 +80,6 @@ impl Card {
         let callees = applets::listed(order, self.roll.count, who);
         let marks = arrivals::envelope_marks(self.desk.outstanding, e);
         let answer = arrivals::answered(refusal, callees, marks);
-        Arrived { card: self, answer }
+        Reply { card: self, answer }
     }
 }

@@ -1,22 +1,18 @@
 // The calls about menu entries: new, change, enable, disable. Each has one way through: a refused call leaves what was there.
 // A row is known by its identifier; it is found, changed and told of in one pass over the rows.
 use crate::Card;
-use crate::Changed;
-use crate::Numbered;
-use crate::done_of;
+use crate::Reply;
 use crate::due_after;
-use crate::given_of;
 ghost use mathlib.Core.Path.{_≡_};
 ghost use Rattle.rules.specs.Calls.{entry, newEntry, changeEntry, enableEntry, disableEntry};
-ghost use Rattle.rules.specs.Step.{step};
-ghost use Rattle.card.specs.View.{view, Left};
-ghost use Rattle.card.specs.Reply.{changedBy, numberedBy};
+ghost use Rattle.card.specs.View.{Left};
+ghost use Rattle.card.specs.Replies.{Replies};
 
 impl Card {
     // Makes the applet's next entry: a row at its requested position, with its requested identifier or a free one.
-    pub fn new_entry(self, applet: u8, help: bool, text: &[u8]) -> Numbered
+    pub fn new_entry(self, applet: u8, help: bool, text: &[u8]) -> Reply
         requires { ⌜ Left self ⌝ }
-        ensures { λ r. ⌜ r ≡ numberedBy (step (view self) (entry (newEntry applet help (now (text .entry))))) ⌝ }
+        ensures { λ r. ⌜ Replies self (entry (newEntry applet help (now (text .entry)))) r ⌝ }
     {
         let mut left = self;
         let there = sets::has(left.roll.present, applet);
@@ -40,14 +36,14 @@ impl Card {
             left.rows = next;
             left.desk.due.menu = due;
         }
-        let answer = given_of(refusal, identifier);
-        Numbered { card: left, answer }
+        let answer = paper::of_number(refusal, identifier);
+        Reply { card: left, answer }
     }
 
     // Gives a row of the applet a new text and help mark.
-    pub fn change_entry(self, applet: u8, identifier: u8, help: bool, text: &[u8]) -> Changed
+    pub fn change_entry(self, applet: u8, identifier: u8, help: bool, text: &[u8]) -> Reply
         requires { ⌜ Left self ⌝ }
-        ensures { λ r. ⌜ r ≡ changedBy (step (view self) (entry (changeEntry applet identifier help (now (text .entry))))) ⌝ }
+        ensures { λ r. ⌜ Replies self (entry (changeEntry applet identifier help (now (text .entry)))) r ⌝ }
     {
         let mut left = self;
         let there = sets::has(left.roll.present, applet);
@@ -62,14 +58,14 @@ impl Card {
         left.rows = next;
         left.desk.due.menu = due;
         let refusal = refusals::change_refusal(there, worded.its, fits);
-        let answer = done_of(refusal);
-        Changed { card: left, answer }
+        let answer = paper::of_refusal(refusal);
+        Reply { card: left, answer }
     }
 
     // Enables a row of the applet.
-    pub fn enable_entry(self, applet: u8, identifier: u8) -> Changed
+    pub fn enable_entry(self, applet: u8, identifier: u8) -> Reply
         requires { ⌜ Left self ⌝ }
-        ensures { λ r. ⌜ r ≡ changedBy (step (view self) (entry (enableEntry applet identifier))) ⌝ }
+        ensures { λ r. ⌜ Replies self (entry (enableEntry applet identifier)) r ⌝ }
     {
         let mut left = self;
         let there = sets::has(left.roll.present, applet);
@@ -81,14 +77,14 @@ impl Card {
         left.rows = next;
         left.desk.due.menu = due;
         let refusal = refusals::row_refusal(there, turned.its);
-        let answer = done_of(refusal);
-        Changed { card: left, answer }
+        let answer = paper::of_refusal(refusal);
+        Reply { card: left, answer }
     }
 
     // Disables a row of the applet.
-    pub fn disable_entry(self, applet: u8, identifier: u8) -> Changed
+    pub fn disable_entry(self, applet: u8, identifier: u8) -> Reply
         requires { ⌜ Left self ⌝ }
-        ensures { λ r. ⌜ r ≡ changedBy (step (view self) (entry (disableEntry applet identifier))) ⌝ }
+        ensures { λ r. ⌜ Replies self (entry (disableEntry applet identifier)) r ⌝ }
     {
         let mut left = self;
         let there = sets::has(left.roll.present, applet);
@@ -100,7 +96,7 @@ impl Card {
         left.rows = next;
         left.desk.due.menu = due;
         let refusal = refusals::row_refusal(there, turned.its);
-        let answer = done_of(refusal);
-        Changed { card: left, answer }
+        let answer = paper::of_refusal(refusal);
+        Reply { card: left, answer }
     }
 }

@@ -1,7 +1,6 @@
 // The fresh card.
 use crate::Card;
-use crate::Changed;
-use crate::done_of;
+use crate::Reply;
 use rules::Bank;
 use rules::Desk;
 use rules::Due;
@@ -12,9 +11,8 @@ ghost use Prim.Native.Nat.{_≤_};
 ghost use lib.ListN.{length};
 ghost use Rattle.lists.specs.Tests.{if_then_else_, _==_};
 ghost use Rattle.rules.specs.Holds.{document, fresh};
-ghost use Rattle.rules.specs.Beside.{freshCard};
 ghost use Rattle.card.specs.View.{stored};
-ghost use Rattle.card.specs.Reply.{madeBy};
+ghost use Rattle.card.specs.Replies.{MakesFresh};
 
 // How many bytes of a title are kept: all, or none where it is refused.
 fn kept_length(refusal: u8, len: usize) -> usize
@@ -63,13 +61,13 @@ fn made(title: &[u8]) -> Card
 
 impl Card {
     // A fresh card with a title; with an empty one where it is refused.
-    pub fn fresh(title: &[u8]) -> Changed
-        ensures { λ r. ⌜ r ≡ madeBy (freshCard document (now (title .entry))) ⌝ }
+    pub fn fresh(title: &[u8]) -> Reply
+        ensures { λ r. ⌜ MakesFresh (now (title .entry)) r ⌝ }
     {
         let refusal = refusals::title_refusal(title);
         let n = kept_length(refusal, title.len());
         let card = made(&title[..n]);
-        let answer = done_of(refusal);
-        Changed { card, answer }
+        let answer = paper::of_refusal(refusal);
+        Reply { card, answer }
     }
 }

@@ -1,8 +1,7 @@
 // Handing out: the command that is due, the menu first and then the event list, at the front of a lent buffer.
 // The card is left as it will be before the first byte is written.
 use crate::Card;
-use crate::Numbered;
-use crate::given_of;
+use crate::Reply;
 use rules::Desk;
 use rules::Kind;
 use rules::Rows;
@@ -15,12 +14,11 @@ ghost use Rattle.lists.specs.Wrote.{Wrote};
 ghost use Rattle.rules.specs.Events.{codes, firstDownload};
 ghost use Rattle.rules.specs.Commands.{menuOf, menuBytes, eventBytes};
 ghost use Rattle.rules.specs.Calls.{systemCommand};
-ghost use Rattle.rules.specs.Step.{step};
 ghost use Rattle.command.specs.Fits.{Fits, shownOf};
 ghost use Rattle.downloads.specs.Listed.{codesFrom};
 ghost use Rattle.downloads.specs.Turns.{isListened};
-ghost use Rattle.card.specs.View.{view, Left};
-ghost use Rattle.card.specs.Reply.{numberedBy};
+ghost use Rattle.card.specs.View.{Left};
+ghost use Rattle.card.specs.Replies.{Replies, Fills};
 
 // Whether a matter is handed out: the call is accepted, nothing before it is due, and it is.
 fn is_handed(refusal: u8, before: bool, due: bool) -> bool
@@ -57,9 +55,9 @@ fn put_events(buf: &mut [u8], registered: [u8; Kind::EVENTS], selectable: u8) ->
 
 impl Card {
     // Hands out the command that is due; its length, or 0 where nothing is due.
-    pub fn system_command(self, buf: &mut [u8]) -> Numbered
+    pub fn system_command(self, buf: &mut [u8]) -> Reply
         requires { ⌜ Left self ⌝ }
-        ensures { λ r. ⌜ (r ≡ numberedBy (step (view self) (systemCommand (now (buf .entry))))) × (now (buf .exit) ≡ step (view self) (systemCommand (now (buf .entry))) .buffer) ⌝ }
+        ensures { λ r. ⌜ Replies self (systemCommand (now (buf .entry))) r × Fills self (systemCommand (now (buf .entry))) (now (buf .exit)) ⌝ }
     {
         let mut left = self;
         let was = left.desk.outstanding;
@@ -84,7 +82,7 @@ impl Card {
             let registered = left.registered;
             n = put_events(buf, registered, left.selectable);
         }
-        let answer = given_of(refusal, n as u8);
-        Numbered { card: left, answer }
+        let answer = paper::of_number(refusal, n as u8);
+        Reply { card: left, answer }
     }
 }

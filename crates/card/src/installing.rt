@@ -1,19 +1,17 @@
 // The call that installs an applet. It has one way through: a refused call stores nothing.
 use crate::Card;
-use crate::Changed;
-use crate::done_of;
+use crate::Reply;
 use rules::Request;
 ghost use mathlib.Core.Path.{_≡_};
 ghost use Rattle.rules.specs.Calls.{admin, install};
-ghost use Rattle.rules.specs.Step.{step};
-ghost use Rattle.card.specs.View.{view, Left};
-ghost use Rattle.card.specs.Reply.{changedBy};
+ghost use Rattle.card.specs.View.{Left};
+ghost use Rattle.card.specs.Replies.{Replies};
 
 impl Card {
     // Installs an applet with what it asks for: selectable, with no entry made and registered for nothing.
-    pub fn install(self, applet: u8, request: Request) -> Changed
+    pub fn install(self, applet: u8, request: Request) -> Reply
         requires { ⌜ Left self ⌝ }
-        ensures { λ r. ⌜ r ≡ changedBy (step (view self) (admin (install applet request))) ⌝ }
+        ensures { λ r. ⌜ Replies self (admin (install applet request)) r ⌝ }
     {
         let mut left = self;
         let roll = left.roll;
@@ -25,7 +23,7 @@ impl Card {
             left.roll = next;
             left.selectable = selectable;
         }
-        let answer = done_of(refusal);
-        Changed { card: left, answer }
+        let answer = paper::of_refusal(refusal);
+        Reply { card: left, answer }
     }
 }

@@ -13,18 +13,12 @@ mod timing;
 
 ghost use mathlib.Core.Path.{_≡_};
 ghost use mathlib.Core.Bool.{_&&_, _||_};
-ghost use Rattle.lists.specs.Tests.{if_then_else_, _==_};
-ghost use Rattle.rules.specs.Calls.{only, numbered};
-ghost use Rattle.card.specs.Reply.{doneOf, givenOf};
+use rules::Answer;
 use rules::Bank;
-use rules::Called;
 use rules::Desk;
-use rules::Done;
-use rules::Given;
 use rules::Kind;
 use rules::Roll;
 use rules::Rows;
-use rules::Told;
 
 #[repr(C)]
 pub struct Card {
@@ -38,48 +32,10 @@ pub struct Card {
     pub desk: Desk,
 }
 
-// The card after a call that only does something.
-pub struct Changed {
+// The card after a call, with the answer.
+pub struct Reply {
     pub card: Card,
-    pub answer: Done,
-}
-
-// The card after a call that gives a number.
-pub struct Numbered {
-    pub card: Card,
-    pub answer: Given,
-}
-
-// The card after a question.
-pub struct Asked {
-    pub card: Card,
-    pub answer: Told,
-}
-
-// The card after an arrival.
-pub struct Arrived {
-    pub card: Card,
-    pub answer: Called,
-}
-
-// The answer of a call that only does something.
-fn done_of(refusal: u8) -> Done
-    ensures { λ r. ⌜ r ≡ doneOf (only refusal) ⌝ }
-{
-    if refusal == 0 {
-        return Done::Accepted;
-    }
-    Done::Refused(refusal)
-}
-
-// The answer of a call that gives a number.
-fn given_of(refusal: u8, number: u8) -> Given
-    ensures { λ r. ⌜ r ≡ givenOf (if refusal == 0 then numbered number else only refusal) ⌝ }
-{
-    if refusal == 0 {
-        return Given::Number(number);
-    }
-    Given::Refused(refusal)
+    pub answer: Answer,
 }
 
 // A mark after a call: in a session, what changes is due.

@@ -1,19 +1,18 @@
 // The calls that lock and unlock an applet. Each has one way out: a call that turns nothing stores nothing.
 use crate::Card;
-use crate::Changed;
-use crate::done_of;
+use crate::Reply;
 use crate::due_after;
 use rules::Rows;
+use rules::refused;
 ghost use mathlib.Core.Path.{_≡_};
 ghost use mathlib.Core.Bool.{not, Bool·beq, _&&_};
 ghost use Rattle.lists.specs.Tests.{if_then_else_};
 ghost use Rattle.rules.specs.Held.{viewRows, TidyRows};
 ghost use Rattle.rules.specs.Calls.{admin, lock, unlock};
-ghost use Rattle.rules.specs.Step.{step};
 ghost use Rattle.sets.specs.Sets.{has?};
 ghost use Rattle.screen.specs.Asked.{hasEnabledRow};
-ghost use Rattle.card.specs.View.{view, Left};
-ghost use Rattle.card.specs.Reply.{changedBy};
+ghost use Rattle.card.specs.View.{Left};
+ghost use Rattle.card.specs.Replies.{Replies};
 
 // The refusal where there is no such applet.
 pub fn absent_refusal(there: bool) -> u8
@@ -22,7 +21,7 @@ pub fn absent_refusal(there: bool) -> u8
     if there {
         return 0;
     }
-    2
+    refused::NO_APPLET
 }
 
 // Whether the lock turns: the applet is there, and not so already.
@@ -53,9 +52,9 @@ pub fn menu_turns(there: bool, set: u8, applet: u8, on: bool, rows: Rows) -> boo
 
 impl Card {
     // Locks an applet: it is not called until it is unlocked.
-    pub fn lock(self, applet: u8) -> Changed
+    pub fn lock(self, applet: u8) -> Reply
         requires { ⌜ Left self ⌝ }
-        ensures { λ r. ⌜ r ≡ changedBy (step (view self) (admin (lock applet))) ⌝ }
+        ensures { λ r. ⌜ Replies self (admin (lock applet)) r ⌝ }
     {
         let mut left = self;
         let there = sets::has(left.roll.present, applet);
@@ -74,14 +73,14 @@ impl Card {
             left.desk.due.events = events_due;
         }
         let refusal = absent_refusal(there);
-        let answer = done_of(refusal);
-        Changed { card: left, answer }
+        let answer = paper::of_refusal(refusal);
+        Reply { card: left, answer }
     }
 
     // Makes an applet selectable again.
-    pub fn unlock(self, applet: u8) -> Changed
+    pub fn unlock(self, applet: u8) -> Reply
         requires { ⌜ Left self ⌝ }
-        ensures { λ r. ⌜ r ≡ changedBy (step (view self) (admin (unlock applet))) ⌝ }
+        ensures { λ r. ⌜ Replies self (admin (unlock applet)) r ⌝ }
     {
         let mut left = self;
         let there = sets::has(left.roll.present, applet);
@@ -100,7 +99,7 @@ impl Card {
             left.desk.due.events = events_due;
         }
         let refusal = absent_refusal(there);
-        let answer = done_of(refusal);
-        Changed { card: left, answer }
+        let answer = paper::of_refusal(refusal);
+        Reply { card: left, answer }
     }
 }

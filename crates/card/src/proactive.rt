@@ -1,13 +1,11 @@
 // The calls about proactive commands. Each has one way through: a refused call stores what was there.
 use crate::Card;
-use crate::Changed;
-use crate::done_of;
+use crate::Reply;
 ghost use mathlib.Core.Path.{_≡_};
 ghost use Rattle.lists.specs.Tests.{if_then_else_, _==_};
 ghost use Rattle.rules.specs.Calls.{proactive, send, response};
-ghost use Rattle.rules.specs.Step.{step};
-ghost use Rattle.card.specs.View.{view, Left};
-ghost use Rattle.card.specs.Reply.{changedBy};
+ghost use Rattle.card.specs.View.{Left};
+ghost use Rattle.card.specs.Replies.{Replies};
 
 // Whether a command is outstanding after a call that makes it so, or not so, where it is accepted.
 fn outstanding_after(refusal: u8, was: bool, is: bool) -> bool
@@ -21,9 +19,9 @@ fn outstanding_after(refusal: u8, was: bool, is: bool) -> bool
 
 impl Card {
     // Sends a command of an applet, which is then outstanding.
-    pub fn send(self, applet: u8, bytes: &[u8]) -> Changed
+    pub fn send(self, applet: u8, bytes: &[u8]) -> Reply
         requires { ⌜ Left self ⌝ }
-        ensures { λ r. ⌜ r ≡ changedBy (step (view self) (proactive (send applet (now (bytes .entry))))) ⌝ }
+        ensures { λ r. ⌜ Replies self (proactive (send applet (now (bytes .entry)))) r ⌝ }
     {
         let command = envelopes::read_command(bytes);
         let mut left = self;
@@ -33,21 +31,21 @@ impl Card {
         let refusal = refusals::send_refusal(command, applet, there, bank, was);
         let is = outstanding_after(refusal, was, true);
         left.desk.outstanding = is;
-        let answer = done_of(refusal);
-        Changed { card: left, answer }
+        let answer = paper::of_refusal(refusal);
+        Reply { card: left, answer }
     }
 
     // Ends the outstanding command.
-    pub fn response(self) -> Changed
+    pub fn response(self) -> Reply
         requires { ⌜ Left self ⌝ }
-        ensures { λ r. ⌜ r ≡ changedBy (step (view self) (proactive response)) ⌝ }
+        ensures { λ r. ⌜ Replies self (proactive response) r ⌝ }
     {
         let mut left = self;
         let was = left.desk.outstanding;
         let refusal = refusals::response_refusal(was);
         let is = outstanding_after(refusal, was, false);
         left.desk.outstanding = is;
-        let answer = done_of(refusal);
-        Changed { card: left, answer }
+        let answer = paper::of_refusal(refusal);
+        Reply { card: left, answer }
     }
 }

@@ -1,32 +1,14 @@
 // The calls about registrations for events. Each has one way through: a refused call stores what was there.
-use crate::Asked;
 use crate::Card;
-use crate::Changed;
-use crate::done_of;
+use crate::Reply;
 use crate::due_after;
 use rules::Kind;
-use rules::Told;
 ghost use mathlib.Core.Path.{_≡_};
 ghost use Rattle.lists.specs.Tests.{if_then_else_, _==_};
-ghost use Rattle.rules.specs.declared.Told.the-variants.{Yes, No, Refused};
 ghost use Rattle.rules.specs.Calls.{event, setEvent, clearEvent, askEvent};
-ghost use Rattle.rules.specs.Step.{step};
-ghost use Rattle.card.specs.View.{view, Left};
-ghost use Rattle.card.specs.Reply.{changedBy, askedBy};
+ghost use Rattle.card.specs.View.{Left};
+ghost use Rattle.card.specs.Replies.{Replies};
 ghost use Rattle.card.specs.Turns.{setAfter, ownerAfter, isListed};
-
-// The answer of a question.
-fn told_of(refusal: u8, says: bool) -> Told
-    ensures { λ r. ⌜ r ≡ (if refusal == 0 then (if says then Yes else No) else Refused refusal) ⌝ }
-{
-    if refusal == 0 {
-        if says {
-            return Told::Yes;
-        }
-        return Told::No;
-    }
-    Told::Refused(refusal)
-}
 
 // The set of the event's place after the call.
 fn set_after(refusal: u8, place: u8, set: u8, applet: u8, on: bool) -> u8
@@ -69,9 +51,9 @@ fn is_listed(place: u8, set: u8, control: u8, applet: u8) -> bool
 
 impl Card {
     // Registers an applet for an event.
-    pub fn set_event(self, applet: u8, value: i16) -> Changed
+    pub fn set_event(self, applet: u8, value: i16) -> Reply
         requires { ⌜ Left self ⌝ }
-        ensures { λ r. ⌜ r ≡ changedBy (step (view self) (event (setEvent applet value))) ⌝ }
+        ensures { λ r. ⌜ Replies self (event (setEvent applet value)) r ⌝ }
     {
         let mut left = self;
         let kind = events::kind_of(value);
@@ -89,14 +71,14 @@ impl Card {
         left.registered = registered;
         left.control = control;
         left.desk.due.events = events_due;
-        let answer = done_of(refusal);
-        Changed { card: left, answer }
+        let answer = paper::of_refusal(refusal);
+        Reply { card: left, answer }
     }
 
     // Ends an applet's registration for an event.
-    pub fn clear_event(self, applet: u8, value: i16) -> Changed
+    pub fn clear_event(self, applet: u8, value: i16) -> Reply
         requires { ⌜ Left self ⌝ }
-        ensures { λ r. ⌜ r ≡ changedBy (step (view self) (event (clearEvent applet value))) ⌝ }
+        ensures { λ r. ⌜ Replies self (event (clearEvent applet value)) r ⌝ }
     {
         let mut left = self;
         let kind = events::kind_of(value);
@@ -114,14 +96,14 @@ impl Card {
         left.registered = registered;
         left.control = control;
         left.desk.due.events = events_due;
-        let answer = done_of(refusal);
-        Changed { card: left, answer }
+        let answer = paper::of_refusal(refusal);
+        Reply { card: left, answer }
     }
 
     // Whether an applet is registered for an event.
-    pub fn ask_event(self, applet: u8, value: i16) -> Asked
+    pub fn ask_event(self, applet: u8, value: i16) -> Reply
         requires { ⌜ Left self ⌝ }
-        ensures { λ r. ⌜ r ≡ askedBy (step (view self) (event (askEvent applet value))) ⌝ }
+        ensures { λ r. ⌜ Replies self (event (askEvent applet value)) r ⌝ }
     {
         let kind = events::kind_of(value);
         let there = sets::has(self.roll.present, applet);
@@ -131,7 +113,7 @@ impl Card {
         let registered = self.registered;
         let set = registered[p];
         let says = is_listed(place, set, self.control, applet);
-        let answer = told_of(refusal, says);
-        Asked { card: self, answer }
+        let answer = paper::of_yes_or_no(refusal, says);
+        Reply { card: self, answer }
     }
 }

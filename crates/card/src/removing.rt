@@ -1,21 +1,19 @@
 // The call that deletes an applet. It has one way out: a refused call stores nothing.
 use crate::Card;
-use crate::Changed;
-use crate::done_of;
+use crate::Reply;
 use crate::due_after;
 use crate::locking::absent_refusal;
 use crate::locking::menu_turns;
 ghost use mathlib.Core.Path.{_≡_};
 ghost use Rattle.rules.specs.Calls.{admin, delete};
-ghost use Rattle.rules.specs.Step.{step};
-ghost use Rattle.card.specs.View.{view, Left};
-ghost use Rattle.card.specs.Reply.{changedBy};
+ghost use Rattle.card.specs.View.{Left};
+ghost use Rattle.card.specs.Replies.{Replies};
 
 impl Card {
     // Deletes an applet, with its rows, its timers and its registrations.
-    pub fn delete(self, applet: u8) -> Changed
+    pub fn delete(self, applet: u8) -> Reply
         requires { ⌜ Left self ⌝ }
-        ensures { λ r. ⌜ r ≡ changedBy (step (view self) (admin (delete applet))) ⌝ }
+        ensures { λ r. ⌜ Replies self (admin (delete applet)) r ⌝ }
     {
         let mut left = self;
         let there = sets::has(left.roll.present, applet);
@@ -48,7 +46,7 @@ impl Card {
             left.rows = next_rows;
         }
         let refusal = absent_refusal(there);
-        let answer = done_of(refusal);
-        Changed { card: left, answer }
+        let answer = paper::of_refusal(refusal);
+        Reply { card: left, answer }
     }
 }

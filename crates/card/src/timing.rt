@@ -1,13 +1,11 @@
 // The calls about timers. An applet that is not there is to the bank an owner of nothing, and so refused.
 use crate::Card;
-use crate::Changed;
-use crate::Numbered;
+use crate::Reply;
 ghost use mathlib.Core.Path.{_≡_};
 ghost use Rattle.lists.specs.Tests.{if_then_else_};
 ghost use Rattle.rules.specs.Calls.{timer as timer-call, allocate, release};
-ghost use Rattle.rules.specs.Step.{step};
-ghost use Rattle.card.specs.View.{view, Left};
-ghost use Rattle.card.specs.Reply.{changedBy, numberedBy};
+ghost use Rattle.card.specs.View.{Left};
+ghost use Rattle.card.specs.Replies.{Replies};
 
 // The applet as an owner of timers: its number, or 0 where there is no such applet.
 fn owner_for(there: bool, applet: u8) -> u8
@@ -21,9 +19,9 @@ fn owner_for(there: bool, applet: u8) -> u8
 
 impl Card {
     // Gives the applet the lowest free timer.
-    pub fn allocate(self, applet: u8) -> Numbered
+    pub fn allocate(self, applet: u8) -> Reply
         requires { ⌜ Left self ⌝ }
-        ensures { λ r. ⌜ r ≡ numberedBy (step (view self) (timer-call (allocate applet))) ⌝ }
+        ensures { λ r. ⌜ Replies self (timer-call (allocate applet)) r ⌝ }
     {
         let mut left = self;
         let there = sets::has(left.roll.present, applet);
@@ -35,13 +33,13 @@ impl Card {
         let next = allocated.bank;
         let answer = allocated.answer;
         left.bank = next;
-        Numbered { card: left, answer }
+        Reply { card: left, answer }
     }
 
     // Frees a timer of the applet.
-    pub fn release(self, applet: u8, timer: u8) -> Changed
+    pub fn release(self, applet: u8, timer: u8) -> Reply
         requires { ⌜ Left self ⌝ }
-        ensures { λ r. ⌜ r ≡ changedBy (step (view self) (timer-call (release applet timer))) ⌝ }
+        ensures { λ r. ⌜ Replies self (timer-call (release applet timer)) r ⌝ }
     {
         let mut left = self;
         let there = sets::has(left.roll.present, applet);
@@ -51,6 +49,6 @@ impl Card {
         let next = released.bank;
         let answer = released.answer;
         left.bank = next;
-        Changed { card: left, answer }
+        Reply { card: left, answer }
     }
 }

@@ -15,7 +15,7 @@ use Rattle.lists.proofs.Times.{if-same}
 use Rattle.rules.specs.Holds.{Model, document, fresh}
 use Rattle.rules.specs.Applets.{present, applet}
 use Rattle.rules.specs.Timers.{ownerOf}
-use Rattle.rules.specs.Calls.{Call, Answer, only, admin, event, entry, timer, arrival, settled, proactive, systemCommand, setEvent, clearEvent, askEvent, newEntry, changeEntry, enableEntry, disableEntry, allocate, release, envelope, profile}
+use Rattle.rules.specs.Calls.{Call, Answer, refusedWith, admin, event, entry, timer, arrival, settled, proactive, systemCommand, setEvent, clearEvent, askEvent, newEntry, changeEntry, enableEntry, disableEntry, allocate, release, envelope, profile}
 use Rattle.rules.specs.Refusals.{refusal}
 use Rattle.rules.specs.Step.{eventAnswer, entryAnswer, timerAnswer, arrivalAnswer, answer, changed, outcome, step}
 use Rattle.rules.specs.Beside.{freshBy, freshCard}
@@ -104,7 +104,7 @@ pub accepted-more : (c : Call) (a : Answer) (h : History) → a .refusal ≡ 0 �
 unfolding accepted keep
 accepted-more c a h e = rw e refl
 
-pub accepted-same : (c : Call) (n : ℕ) (h : History) → accepted (did c (only (suc n)) ∷ h) ≡ accepted h
+pub accepted-same : (c : Call) (n : ℕ) (h : History) → accepted (did c (refusedWith (suc n)) ∷ h) ≡ accepted h
 unfolding accepted keep
 accepted-same c n h = rw (eqb·suc-zero n) refl
 

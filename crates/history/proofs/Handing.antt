@@ -18,7 +18,7 @@ use Rattle.rules.specs.Holds.{Row, Tables, Desk, Model, document}
 use Rattle.rules.specs.Bytes.{byte}
 use Rattle.rules.specs.Commands.{Menu, shownMenu, shownEvents, menuOf, lengthBytes, commandBytes, detailBytes, menuValue, menuBytes, eventBytes, valueOf, readMenu, mayStand, isMenu}
 use Rattle.rules.specs.Desk.{sameRow?, menuChanges, eventsChange, changes, either, marked, withMarks, shownSome, withProfile, menu, eventList, handedOut, dueCommand, withHandedOut}
-use Rattle.rules.specs.Calls.{Call, only, admin, event, entry, timer, arrival, settled, proactive, systemCommand, envelope, profile, send, response}
+use Rattle.rules.specs.Calls.{Call, refusedWith, admin, event, entry, timer, arrival, settled, proactive, systemCommand, envelope, profile, send, response}
 use Rattle.rules.specs.Refusals.{refusal}
 use Rattle.rules.specs.Step.{arrivalDesk, proactiveDesk, deskAfter, tablesAfter, changed, answer, lent, front, written, outcome, step}
 use Rattle.rules.specs.Beside.{freshBy, freshCard}
@@ -195,7 +195,7 @@ starts m c l e = rw (e, plain m c) refl
 
 -- a refused one hands out nothing and begins no session
 passed-over : (m : Model) (c : Call) (n : ℕ) (l : List Seen)
-    → handedSince (seen c (record { after = m; answer = only (suc n); buffer = lent c }) ∷ l) ≡ [] ∷ handedSince l
+    → handedSince (seen c (record { after = m; answer = refusedWith (suc n); buffer = lent c }) ∷ l) ≡ [] ∷ handedSince l
 unfolding handedSince begins handed
 passed-over m c n l = rw (eqb·suc-zero n) refl
 

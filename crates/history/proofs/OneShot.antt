@@ -21,7 +21,7 @@ use Rattle.rules.specs.Arrivals.{Arrival, event, choice, help, expiry, nothing,
 use Rattle.rules.specs.Calls.{Call, admin, event as eventCall, entry, timer, arrival, settled, proactive, systemCommand, setEvent, envelope, profile}
 use Rattle.rules.specs.Step.{step}
 use Rattle.rules.proofs.Compute.{compute}
-use Rattle.rules.proofs.Refused.{refused}
+use Rattle.rules.proofs.OnRefusal.{refused}
 use Rattle.history.specs.Histories.{Entry, History, did}
 use Rattle.history.specs.Deeds.{sets, clears, deletes, settles, isSettled}
 use Rattle.history.specs.Named.{isSelectable, isRegistered, hasOneShot, usesUp}

@@ -28,7 +28,7 @@ use Rattle.rules.specs.Calls.{Call, event, askEvent, arrival, envelope, settled
 use Rattle.rules.specs.Desk.{sameRow?}
 use Rattle.rules.specs.Refusals.{eventLines, lines, refusal}
 use Rattle.rules.specs.Step.{eventAnswer, answer, step}
-use Rattle.rules.proofs.Refused.{refused}
+use Rattle.rules.proofs.OnRefusal.{refused}
 use Rattle.rules.proofs.DueMarks.{row-self}
 use Rattle.rules.specs.Runs.{after}
 use Rattle.runs.specs.Sound.{SoundTables}

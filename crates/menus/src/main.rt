@@ -4,7 +4,6 @@ mod damage;
 
 use card::Card;
 use libc::STDOUT_FILENO;
-use rules::Given;
 use rules::Item;
 use rules::Pair;
 use rules::Request;
@@ -162,12 +161,9 @@ fn handed(card: Card, out: &mut [u8]) -> usize
     requires { ⌜ Left card ⌝ }
     ensures { λ r. ⌜ r ≤ 255 ⌝ }
 {
-    let numbered = card.system_command(out);
-    let answer = numbered.answer;
-    match answer {
-        Given::Number(n) => n as usize,
-        Given::Refused(n) => 0,
-    }
+    let reply = card.system_command(out);
+    let answer = reply.answer;
+    answer.number as usize
 }
 
 // The command that is due as it is, and damaged.

@@ -28,9 +28,10 @@ use Rattle.asks.specs.declared.Arrival.the-variants as arriving
 use Rattle.asks.specs.declared.Ask.{Ask}
 use Rattle.asks.specs.declared.Ask.the-variants.{Deed, Gift, Arrival, Unknown}
 use Rattle.asks.specs.Asks.{deedCall, giftCall, arrivalCall, callOf}
-use Rattle.paper.specs.Answers.{storedAnswer}
-use Rattle.port.specs.declared.Posted.{Posted}
-use Rattle.port.specs.Posts.{lentAfter, postedBy, Performs}
+use Rattle.rules.specs.Held.{storedAnswer}
+use Rattle.card.specs.declared.Reply.{Reply}
+use Rattle.card.specs.Replies.{replied}
+use Rattle.port.specs.Posts.{lentAfter, Performs}
 use Rattle.port.proofs.PostLaws.{Made}
 use Rattle.orders.specs.Orders.{argumentsOf, ordered}
 use Rattle.answers.specs.Shown.{shownGift, lineBy}
@@ -88,8 +89,8 @@ module _ (k letter a : ℕ) (m : Model) (l buffer : List ℕ) (wide : length buf
   same = step-same m buffer Blank (wide ∙ sym (length-replicate {A = ℕ} 256 0))
 
   -- the line of what a call gives is the rules' line of the order
-  line-is : (ask : Ask) (out : List ℕ) (p : Posted) → Performs m (callOf ask a l buffer) buffer out p → lineBy k letter ask (p .answer) out ≡ floor.obey k letter m (ordered ask a l) .line
-  unfolding Performs lineBy callOf ordered floor.obey obeyed postedBy storedAnswer
+  line-is : (ask : Ask) (out : List ℕ) (p : Reply) → Performs m (callOf ask a l buffer) buffer out p → lineBy k letter ask (p .answer) out ≡ floor.obey k letter m (ordered ask a l) .line
+  unfolding Performs lineBy callOf ordered floor.obey obeyed replied storedAnswer
   line-is (Deed x) out p (e, b) =
       let o = step m (deedCall x a l) in
       rw e (ap (lineOf k letter (decimal (o .answer .refusal))) (if-none (o .answer .refusal == 0) _ (deed-shown x a l o)))
@@ -107,14 +108,14 @@ module _ (k letter a : ℕ) (m : Model) (l buffer : List ℕ) (wide : length buf
       rw e (ap (λ (s : List ℕ). lineOf k letter (decimal (o .answer .refusal)) (if o .answer .refusal == 0 then s else [])) (take-padded 8 0 (o .answer .called) ∙ arrival-shown x l o))
   line-is Unknown out p g = refl
 
-  card-is : (ask : Ask) (out : List ℕ) (p : Posted) → Performs m (callOf ask a l buffer) buffer out p → p .card ≡ stored (floor.obey k letter m (ordered ask a l) .card)
-  unfolding Performs callOf ordered giftCall floor.obey obeyed postedBy
-  card-is (Deed x) out p (e, b) = ap (λ (q : Posted). q .card) e
-  card-is (Gift gift.NewEntry) out p (e, b) = ap (λ (q : Posted). q .card) e
-  card-is (Gift gift.Allocate) out p (e, b) = ap (λ (q : Posted). q .card) e
-  card-is (Gift gift.SystemCommand) out p (e, b) = ap (λ (q : Posted). q .card) e ∙ ap stored (same .after)
-  card-is (Arrival x) out p (e, b) = ap (λ (q : Posted). q .card) e
-  card-is Unknown out p (e, b) = ap (λ (q : Posted). q .card) e
+  card-is : (ask : Ask) (out : List ℕ) (p : Reply) → Performs m (callOf ask a l buffer) buffer out p → p .card ≡ stored (floor.obey k letter m (ordered ask a l) .card)
+  unfolding Performs callOf ordered giftCall floor.obey obeyed replied
+  card-is (Deed x) out p (e, b) = ap (λ (q : Reply). q .card) e
+  card-is (Gift gift.NewEntry) out p (e, b) = ap (λ (q : Reply). q .card) e
+  card-is (Gift gift.Allocate) out p (e, b) = ap (λ (q : Reply). q .card) e
+  card-is (Gift gift.SystemCommand) out p (e, b) = ap (λ (q : Reply). q .card) e ∙ ap stored (same .after)
+  card-is (Arrival x) out p (e, b) = ap (λ (q : Reply). q .card) e
+  card-is Unknown out p (e, b) = ap (λ (q : Reply). q .card) e
 
 -- what the rules say of a record: the card that holds the model it leaves, and its line at the front of b, which is c afterwards
 pub record Obeys (o : floor.Obeyed) (b c : List ℕ) (card : Card) (n : ℕ) : Type 0 where
@@ -123,7 +124,7 @@ pub record Obeys (o : floor.Obeyed) (b c : List ℕ) (card : Card) (n : ℕ) : T
 
 -- THE RECORD ITSELF
 pub at-record
-    : (k letter a : ℕ) (m : Model) (s l : List ℕ) {asked ask : Ask} (buffer out : List ℕ) (p : Posted) {b d : List ℕ} {n : ℕ}
+    : (k letter a : ℕ) (m : Model) (s l : List ℕ) {asked ask : Ask} (buffer out : List ℕ) (p : Reply) {b d : List ℕ} {n : ℕ}
     → length buffer ≡ 256 → letter ≡ byte s 0 → a ≡ byte s 1 → l ≡ argumentsOf s → ordered asked (byte s 1) (argumentsOf s) ≡ orderOf s
     → Made m asked ask a l buffer out p
     → Wrote b 0 (lineBy k letter ask (p .answer) out) d n → Obeys (stepLine k m s) b d (p .card) n

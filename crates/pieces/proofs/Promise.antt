@@ -10,9 +10,9 @@ use Rattle.rules.specs.Refusals.{lowest}
 use Rattle.rules.specs.Runs.{after}
 use Rattle.rules.specs.Floor.{floorLines}
 use Rattle.card.specs.declared.Card.{Card}
-use Rattle.card.specs.declared.Changed.{Changed}
+use Rattle.card.specs.declared.Reply.{Reply}
 use Rattle.card.specs.View.{view, Left}
-use Rattle.card.specs.Reply.{madeBy}
+use Rattle.card.specs.Replies.{freshReply, MakesFresh}
 use Rattle.card.proofs.FreshCard.{fresh-left}
 use Rattle.pieces.specs.Pieces.{linesOf}
 use Rattle.pieces.specs.Turns.{Whole, Turns, none, turn}
@@ -29,16 +29,16 @@ turns-lines {c} {k} left h (turn {p = p} {r = r} {l = l} {w = w} o t) =
     let rest = turns-lines (o .left) (whole-rest p l h) t in
     ap (λ s. s ++ w) (wrote-front (o .wrote)) ∙ ap (λ s. linesOf k (view c) p ++ s) (rw (seen, o .next) at rest) ∙ sym (piece-join k (view c) p l h)
 
-fresh-seen : view (madeBy (freshCard document []) .card) ≡ fresh document []
-unfolding madeBy freshCard freshBy lowest after
+fresh-seen : view (freshReply (freshCard document []) .card) ≡ fresh document []
+unfolding freshReply freshCard freshBy lowest after
 fresh-seen = reached-seen {m = fresh document []} (record { title = []; calls = []; is = refl })
 
 -- from a fresh card with an empty title and number 1 on
 pub floor-writes-its-lines
-    : (made : Changed) → made ≡ madeBy (freshCard document []) → {pieces : List (List ℕ)} {written : List ℕ}
+    : (made : Reply) → MakesFresh [] made → {pieces : List (List ℕ)} {written : List ℕ}
     → Whole pieces → Turns (made .card) 1 pieces written → written ≡ floorLines (gather (λ s. s) pieces)
 unfolding floorLines linesOf
 floor-writes-its-lines made e h t =
     let left : Left (made .card) = rw e (fresh-left []) in
-    let seen : view (made .card) ≡ fresh document [] = ap (λ (x : Changed). view (x .card)) e ∙ fresh-seen in
+    let seen : view (made .card) ≡ fresh document [] = ap (λ (x : Reply). view (x .card)) e ∙ fresh-seen in
     rw seen at (turns-lines left h t)

@@ -45,14 +45,14 @@ pub fn obey_all(card: Card, number: u64, input: &[u8], out: &mut [u8]) -> Run
         let applet = byte_at(bytes, 1);
         let ask = read(bytes);
         let rest = arguments(bytes);
-        let posted = match ask {
+        let reply = match ask {
             Ask::Deed(deed) => do_deed(left, deed, applet, rest),
             Ask::Gift(gift) => give(left, gift, applet, rest, &mut command),
             Ask::Arrival(arrival) => name(left, arrival, rest),
             Ask::Unknown => unasked(left),
         };
-        left = posted.card;
-        let answer = posted.answer;
+        left = reply.card;
+        let answer = reply.answer;
         let end = at + 540;
         let line = &mut out[at..end];
         at += write_answer(line, &digits[..count], letter, ask, answer, &command);

@@ -3,12 +3,13 @@ use Prim.Native.Nat.{ℕ}
 use mathlib.Core.Path.{_≡_}
 use mathlib.Core.List.{List}
 use Rattle.rules.specs.Holds.{Model}
-use Rattle.rules.specs.Calls.{Outcome, Call, only, admin, event, entry, timer, arrival, settled, proactive, systemCommand}
+use Rattle.rules.specs.Calls.{Call, accepted, admin, event, entry, timer, arrival, settled, proactive, systemCommand}
 use Rattle.rules.specs.Step.{step}
+use Rattle.rules.specs.Held.{storedAnswer}
 use Rattle.rules.specs.Floor.{Order, call, noCall}
 use Rattle.card.specs.View.{stored}
-use Rattle.paper.specs.Answers.{storedAnswer}
-use Rattle.port.specs.declared.Posted.{Posted}
+use Rattle.card.specs.declared.Reply.{Reply}
+use Rattle.card.specs.Replies.{replied}
 
 -- what stands in the lent buffer after a call: only the system command writes into it
 unfoldable pub lentAfter : Call → (written out : List ℕ) → List ℕ
@@ -21,15 +22,11 @@ lentAfter settled written out = out
 lentAfter (proactive c) written out = out
 lentAfter (systemCommand buffer) written out = written
 
--- the card and the answer of an outcome, as structs
-unfoldable pub postedBy : Outcome → Posted
-postedBy o = record { card = stored (o .after); answer = storedAnswer (o .answer) }
-
 -- a call has this result, and leaves the lent buffer so
-abbrev pub Gives : Model → Call → (out end : List ℕ) → Posted → Type 0
-Gives m x out end r = (r ≡ postedBy (step m x)) × (end ≡ lentAfter x (step m x .buffer) out)
+abbrev pub Gives : Model → Call → (out end : List ℕ) → Reply → Type 0
+Gives m x out end r = (r ≡ replied (step m x)) × (end ≡ lentAfter x (step m x .buffer) out)
 
 -- WHAT AN ORDER GIVES: what its call does; or, where it makes none, the card as it was and no answer
-unfoldable pub Performs : Model → Order → (out end : List ℕ) → Posted → Type 0
+unfoldable pub Performs : Model → Order → (out end : List ℕ) → Reply → Type 0
 Performs m (call x) out end r = Gives m x out end r
-Performs m noCall out end r = (r ≡ record { card = stored m; answer = storedAnswer (only 0) }) × (end ≡ out)
+Performs m noCall out end r = (r ≡ record { card = stored m; answer = storedAnswer accepted }) × (end ≡ out)

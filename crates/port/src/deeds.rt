@@ -1,28 +1,25 @@
-// The calls that only do something, each put on paper where it is made.
-use crate::Posted;
-use crate::changed;
+// The calls that only do something.
 use asks::Deed;
 use asks::request;
 use asks::value_of;
 use card::Card;
-ghost use mathlib.Core.Path.{_≡_};
-ghost use Rattle.rules.specs.Step.{step};
-ghost use Rattle.card.specs.View.{view, Left};
+use card::Reply;
+ghost use Rattle.card.specs.View.{Left};
 ghost use Rattle.asks.specs.Asks.{deedCall};
-ghost use Rattle.port.specs.Posts.{postedBy};
+ghost use Rattle.card.specs.Replies.{Replies};
 
 // Makes a call that only does something.
-pub fn do_deed(card: Card, deed: Deed, applet: u8, bytes: &[u8]) -> Posted
+pub fn do_deed(card: Card, deed: Deed, applet: u8, bytes: &[u8]) -> Reply
     requires { ⌜ Left card ⌝ }
-    ensures { λ r. ⌜ r ≡ postedBy (step (view card) (deedCall deed applet (now (bytes .entry)))) ⌝ }
+    ensures { λ r. ⌜ Replies card (deedCall deed applet (now (bytes .entry))) r ⌝ }
 {
     match deed {
-        Deed::Install => changed(card.install(applet, request(bytes))),
-        Deed::Delete => changed(card.delete(applet)),
-        Deed::Lock => changed(card.lock(applet)),
-        Deed::Unlock => changed(card.unlock(applet)),
-        Deed::SetEvent => changed(card.set_event(applet, value_of(bytes))),
-        Deed::ClearEvent => changed(card.clear_event(applet, value_of(bytes))),
-        Deed::Response => changed(card.response()),
+        Deed::Install => card.install(applet, request(bytes)),
+        Deed::Delete => card.delete(applet),
+        Deed::Lock => card.lock(applet),
+        Deed::Unlock => card.unlock(applet),
+        Deed::SetEvent => card.set_event(applet, value_of(bytes)),
+        Deed::ClearEvent => card.clear_event(applet, value_of(bytes)),
+        Deed::Response => card.response(),
     }
 }

@@ -1,22 +1,19 @@
-// The calls that name applets, each put on paper where it is made.
-use crate::Posted;
-use crate::arrived;
+// The calls that name applets.
 use asks::Arrival;
 use card::Card;
-ghost use mathlib.Core.Path.{_≡_};
-ghost use Rattle.rules.specs.Step.{step};
-ghost use Rattle.card.specs.View.{view, Left};
+use card::Reply;
+ghost use Rattle.card.specs.View.{Left};
 ghost use Rattle.asks.specs.Asks.{arrivalCall};
-ghost use Rattle.port.specs.Posts.{postedBy};
+ghost use Rattle.card.specs.Replies.{Replies};
 
 // Makes a call that names applets.
-pub fn name(card: Card, arrival: Arrival, bytes: &[u8]) -> Posted
+pub fn name(card: Card, arrival: Arrival, bytes: &[u8]) -> Reply
     requires { ⌜ Left card ⌝ }
-    ensures { λ r. ⌜ r ≡ postedBy (step (view card) (arrivalCall arrival (now (bytes .entry)))) ⌝ }
+    ensures { λ r. ⌜ Replies card (arrivalCall arrival (now (bytes .entry))) r ⌝ }
 {
     match arrival {
-        Arrival::Profile => arrived(card.profile(bytes)),
-        Arrival::Envelope => arrived(card.envelope(bytes)),
-        Arrival::Settled => arrived(card.settled()),
+        Arrival::Profile => card.profile(bytes),
+        Arrival::Envelope => card.envelope(bytes),
+        Arrival::Settled => card.settled(),
     }
 }

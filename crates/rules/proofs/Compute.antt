@@ -17,7 +17,6 @@ use Rattle.rules.specs.Beside as beside′
 use Rattle.rules.specs.Runs as runs′
 use Rattle.rules.specs.Floor as floor′
 use Rattle.rules.specs.Held as held′
-use Rattle.rules.specs.Papers as papers′
 
 unfoldable pub openLists : Unit {0}
 unfolding lists′.empty? lists′.some? lists′.every? lists′.Every lists′.keep lists′.count lists′.run lists′.indexOf lists′.first lists′.change lists′.insertBefore lists′.insertAt lists′.sum lists′.gather lists′.alike? lists′.padded lists′.in? lists′.same? lists′.repeats?
@@ -84,13 +83,9 @@ unfolding floor′.letters floor′.signed floor′.requestOf floor′.orderBy f
 openFloor = tt
 
 unfoldable pub openHeld : Unit {0}
-unfolding held′.viewRow held′.storedRow held′.viewRows held′.storedRows held′.viewDesk held′.storedDesk held′.storedItem held′.storedMenu
+unfolding held′.viewRow held′.storedRow held′.viewRows held′.storedRows held′.viewDesk held′.storedDesk held′.storedItem held′.storedMenu held′.storedAnswer
 openHeld = tt
 
-unfoldable pub openPapers : Unit {0}
-unfolding papers′.paperDone papers′.paperGiven papers′.paperTold papers′.paperCalled
-openPapers = tt
-
 unfoldable pub compute : Unit {0}
-unfolding openLists openText openEvents openBytes openEnvelopes openApplets openRows openTimers openArrivals openCommands openDesk openRefusals openStep openBeside openRuns openFloor openHeld openPapers
+unfolding openLists openText openEvents openBytes openEnvelopes openApplets openRows openTimers openArrivals openCommands openDesk openRefusals openStep openBeside openRuns openFloor openHeld
 compute = tt

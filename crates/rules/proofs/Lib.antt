@@ -3,7 +3,7 @@ pub mod Compute
 pub mod Cases
 pub mod Worked
 pub mod AnnexD
-pub mod Refused
+pub mod OnRefusal
 pub mod Bounds
 pub mod DueMarks
 pub mod Held

@@ -57,17 +57,23 @@ pub record Outcome : Type 0 where
   pub answer : Answer
   pub buffer : List ℕ
 
--- a refusal's number and no other answer; number 0 is the plain acceptance
-abbrev pub only : ℕ → Answer
-only n = record { refusal = n; number = 0; says = false; called = []; marks = noMarks }
+-- an answer that names nobody
+abbrev pub plainly : (refusal number : ℕ) (says : Bool) → Answer
+plainly r n says = record { refusal = r; number = n; says = says; called = []; marks = noMarks }
 
--- accepted, with a number
+-- a refusal's number and no other answer
+abbrev pub refusedWith : ℕ → Answer
+refusedWith r = plainly r 0 false
+
+-- accepted, with nothing to tell; with a number; with a yes or no
+abbrev pub accepted : Answer
+accepted = plainly 0 0 false
+
 abbrev pub numbered : ℕ → Answer
-numbered n = record { refusal = 0; number = n; says = false; called = []; marks = noMarks }
+numbered n = plainly 0 n false
 
--- accepted, with a yes or no
 abbrev pub saying : Bool → Answer
-saying b = record { refusal = 0; number = 0; says = b; called = []; marks = noMarks }
+saying b = plainly 0 0 b
 
 -- accepted, with those called and the marks
 abbrev pub calling : List ℕ → Marks → Answer

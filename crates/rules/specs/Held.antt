@@ -10,9 +10,11 @@ use Rattle.rules.specs.declared.Row as held-row
 use Rattle.rules.specs.declared.Desk as held-desk
 use Rattle.rules.specs.declared.Item as held-item
 use Rattle.rules.specs.declared.Menu as held-menu
+use Rattle.rules.specs.declared.Answer as held-answer
 use Rattle.rules.specs.declared.Rows.{Rows}
 use Rattle.rules.specs.Holds.{Row, Desk}
 use Rattle.rules.specs.Commands.{Item}
+use Rattle.rules.specs.Calls.{Answer}
 use Rattle.rules.specs.Beside.{ReadOutcome}
 
 unfoldable pub viewRow : held-row.Row → Row
@@ -79,4 +81,16 @@ storedMenu o =
       help = o .menu .help;
       at = padded 12 (storedItem (record { identifier = 0; text = [] })) (map storedItem (o .menu .items));
       count = length (o .menu .items);
+    }
+
+-- an answer
+unfoldable pub storedAnswer : Answer → held-answer.Answer
+storedAnswer a =
+    record {
+      refusal = a .refusal;
+      number = a .number;
+      says = a .says;
+      called = padded 8 0 (a .called);
+      count = length (a .called);
+      marks = a .marks;
     }

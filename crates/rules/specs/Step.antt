@@ -1,6 +1,6 @@
 -- One call on the card: what it changes, what it answers, and that a refusal changes nothing.
 use Prim.Native.Nat.{ℕ, zero, suc}
-use mathlib.Core.Bool.{true, false, not}
+use mathlib.Core.Bool.{Bool, true, false, not}
 use mathlib.Core.List.{List, [], _∷_, _++_, map}
 use lib.ListN.{length, drop}
 use Rattle.lists.specs.Lists.{keep, change}
@@ -10,9 +10,9 @@ use Rattle.rules.specs.Envelopes.{envelopeOf}
 use Rattle.rules.specs.Applets.{hasNumber, applet, newcomer, forget, register, isRegistered, usedUp}
 use Rattle.rules.specs.Rows.{withEntry, nextIdentifier, withText, withEnabled, withoutRows}
 use Rattle.rules.specs.Timers.{lowestFree, withAllocated, withReleased, withoutTimers}
-use Rattle.rules.specs.Arrivals.{called, arrivalOf, profileArrival, settledArrival, envelopeMarks, proactiveOnly}
+use Rattle.rules.specs.Arrivals.{called, arrivalOf, profileArrival, settledArrival, envelopeMarks, otherMarks}
 use Rattle.rules.specs.Desk.{marked, withProfile, withOutstanding, withHandedOut, dueCommand}
-use Rattle.rules.specs.Calls.{Answer, Outcome, only, numbered, saying, calling}
+use Rattle.rules.specs.Calls.{Answer, Outcome, accepted, refusedWith, numbered, saying, calling}
 use Rattle.rules.specs.Calls.{Call, admin, event, entry, timer, arrival, settled, proactive, systemCommand}
 use Rattle.rules.specs.Calls.{AdminCall, install, delete, lock, unlock, EventCall, setEvent, clearEvent, askEvent}
 use Rattle.rules.specs.Calls.{EntryCall, newEntry, changeEntry, enableEntry, disableEntry, TimerCall, allocate, release}
@@ -86,45 +86,50 @@ changed m c =
 
 -- What an accepted call answers.
 unfoldable pub eventAnswer : Tables → EventCall → Answer
-eventAnswer t (setEvent n v) = only 0
-eventAnswer t (clearEvent n v) = only 0
+eventAnswer t (setEvent n v) = accepted
+eventAnswer t (clearEvent n v) = accepted
 eventAnswer t (askEvent n v) = saying (isRegistered t n (kindOf v))
 
 unfoldable pub entryAnswer : Tables → EntryCall → Answer
 entryAnswer t (newEntry n help text) = numbered (nextIdentifier (applet t n) (t .rows))
-entryAnswer t (changeEntry n i help text) = only 0
-entryAnswer t (enableEntry n i) = only 0
-entryAnswer t (disableEntry n i) = only 0
+entryAnswer t (changeEntry n i help text) = accepted
+entryAnswer t (enableEntry n i) = accepted
+entryAnswer t (disableEntry n i) = accepted
 
 unfoldable pub timerAnswer : Tables → TimerCall → Answer
 timerAnswer t (allocate n) = numbered (lowestFree (t .timers))
-timerAnswer t (release n k) = only 0
+timerAnswer t (release n k) = accepted
 
-unfoldable pub arrivalAnswer : Model → ArrivalCall → Answer
-arrivalAnswer m (envelope bytes) =
-    calling (called (m .tables) (arrivalOf (envelopeOf bytes))) (envelopeMarks (m .desk .outstanding) (envelopeOf bytes))
-arrivalAnswer m (profile bytes) = calling (called (m .tables) profileArrival) proactiveOnly
+unfoldable pub arrivalAnswer : Tables → (outstanding : Bool) → ArrivalCall → Answer
+arrivalAnswer t outstanding (envelope bytes) =
+    calling (called t (arrivalOf (envelopeOf bytes))) (envelopeMarks outstanding (envelopeOf bytes))
+arrivalAnswer t outstanding (profile bytes) = calling (called t profileArrival) (otherMarks outstanding)
 
+-- the marks tell whether a command is left outstanding
 unfoldable pub answer : Model → Call → Answer
-answer m (admin c) = only 0
+answer m (admin c) = accepted
 answer m (event c) = eventAnswer (m .tables) c
 answer m (entry c) = entryAnswer (m .tables) c
 answer m (timer c) = timerAnswer (m .tables) c
-answer m (arrival c) = arrivalAnswer m c
-answer m settled = calling (called (m .tables) settledArrival) proactiveOnly
-answer m (proactive c) = only 0
+answer m (arrival c) = arrivalAnswer (m .tables) (arrivalDesk m c .outstanding) c
+answer m settled = calling (called (m .tables) settledArrival) (otherMarks (m .desk .outstanding))
+answer m (proactive c) = accepted
 answer m (systemCommand buffer) = numbered (length (dueCommand (m .tables) (m .desk)))
 
--- the buffer that a call is lent; empty where there is none
+-- what is made of the buffer that a call is lent: only the system command is lent one
+abbrev pub inBuffer : (List ℕ → List ℕ) → Call → List ℕ
+inBuffer f (admin c) = []
+inBuffer f (event c) = []
+inBuffer f (entry c) = []
+inBuffer f (timer c) = []
+inBuffer f (arrival c) = []
+inBuffer f settled = []
+inBuffer f (proactive c) = []
+inBuffer f (systemCommand buffer) = f buffer
+
+-- the buffer as it was lent; empty where there is none
 unfoldable pub lent : Call → List ℕ
-lent (admin c) = []
-lent (event c) = []
-lent (entry c) = []
-lent (timer c) = []
-lent (arrival c) = []
-lent settled = []
-lent (proactive c) = []
-lent (systemCommand buffer) = buffer
+lent c = inBuffer (λ buffer. buffer) c
 
 -- the bytes stand at the front of the buffer, and the rest of it is left
 unfoldable pub front : (bytes buffer : List ℕ) → List ℕ
@@ -132,19 +137,12 @@ front bytes buffer = bytes ++ drop (length bytes) buffer
 
 -- what stands in the lent buffer after an accepted call
 unfoldable pub written : Model → Call → List ℕ
-written m (admin c) = []
-written m (event c) = []
-written m (entry c) = []
-written m (timer c) = []
-written m (arrival c) = []
-written m settled = []
-written m (proactive c) = []
-written m (systemCommand buffer) = front (dueCommand (m .tables) (m .desk)) buffer
+written m c = inBuffer (front (dueCommand (m .tables) (m .desk))) c
 
 -- Every refusal returns its number and no other answer and changes nothing, neither the card nor one byte of a lent buffer.
 unfoldable pub outcome : (refusal : ℕ) → Model → Call → Outcome
 outcome zero m c = record { after = changed m c; answer = answer m c; buffer = written m c }
-outcome (suc n) m c = record { after = m; answer = only (suc n); buffer = lent c }
+outcome (suc n) m c = record { after = m; answer = refusedWith (suc n); buffer = lent c }
 
 -- ONE CALL ON THE CARD.
 unfoldable pub step : Model → Call → Outcome

@@ -1,4 +1,5 @@
 // The plain types that the rules of document 01 speak of. The rules themselves stand in specs/, one file for each section.
+pub mod refused;
 
 // The position and the identifier that an applet requests for a menu entry.
 #[repr(C)]
@@ -233,32 +234,16 @@ pub struct Marks {
     pub response: bool,
 }
 
-// The answer of an arrival: the refusal's number (0: none), the applets called, and the marks.
+// The answer of a call on a card or a bank: the refusal's number (0: none), a number (an identifier, a timer, or the length of a
+// command), a yes or no, the applets called, and the marks.
 #[repr(C)]
-pub struct Called {
+pub struct Answer {
     pub refusal: u8,
-    pub at: [u8; Roll::APPLETS],
+    pub number: u8,
+    pub says: bool,
+    pub called: [u8; Roll::APPLETS],
     pub count: u8,
     pub marks: Marks,
-}
-
-// The answer of a call that only does something.
-pub enum Done {
-    Accepted,
-    Refused(u8),
-}
-
-// The answer of a call that gives a number: an identifier, a timer, or the length of a command.
-pub enum Given {
-    Number(u8),
-    Refused(u8),
-}
-
-// The answer of a question.
-pub enum Told {
-    Yes,
-    No,
-    Refused(u8),
 }
 
 // An item of a menu that was read.

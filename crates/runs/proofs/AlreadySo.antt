@@ -20,7 +20,7 @@ use Rattle.rules.specs.Applets.{hasNumber, present, applet, nobody, registered,
 use Rattle.rules.specs.Rows.{hasIdentifier, notItsRow, withEnabled}
 use Rattle.rules.specs.Held.{noRow}
 use Rattle.rules.specs.Desk.{marked}
-use Rattle.rules.specs.Calls.{Outcome, only, admin, event, entry, lock, unlock, setEvent, clearEvent, enableEntry, disableEntry}
+use Rattle.rules.specs.Calls.{Outcome, accepted, admin, event, entry, lock, unlock, setEvent, clearEvent, enableEntry, disableEntry}
 use Rattle.rules.specs.Refusals.{lowest, absent, adminLines, eventLines, entryLines, lines, refusal}
 use Rattle.rules.specs.Step.{adminTables, eventTables, entryTables, tablesAfter, deskAfter, changed, eventAnswer, entryAnswer, answer, written, outcome, step}
 use Rattle.rules.proofs.DueMarks.{marked-same}
@@ -28,7 +28,7 @@ use Rattle.runs.proofs.Looked.{has-its-number}
 
 -- accepted, with no answer but that, and the card as it was
 abbrev pub nothingDone : Model → Outcome
-nothingDone m = record { after = m; answer = only 0; buffer = [] }
+nothingDone m = record { after = m; answer = accepted; buffer = [] }
 
 -- where f leaves the first that passes, the change leaves the list
 change-still : {A : Type 0} (p : A → Bool) (f : A → A) (d : A) (l : List A) → f (first p d l) ≡ first p d l → change p f l ≡ l

@@ -14,12 +14,11 @@ use Rattle.lists.specs.Tests.{_==_}
 use Rattle.lists.specs.Lists.{count, run}
 use Rattle.lists.proofs.Decided.{both}
 use Rattle.rules.specs.declared.Bank.{Bank}
-use Rattle.rules.specs.declared.Given.the-variants as given
-use Rattle.rules.specs.declared.Done.the-variants as done
 use Rattle.rules.specs.Timers.{isOwner, atLimit, noneFree, lowestFree, ownerOf, notItsTimer, withAllocated, withReleased}
 use Rattle.rules.specs.Refusals.{lowest}
 use Rattle.rules.specs.Beside.{bankAllocate, allocateBy, bankRelease, releaseBy}
-use Rattle.rules.specs.Papers.{paperGiven, paperDone}
+use Rattle.rules.specs.Calls.{accepted, refusedWith, numbered}
+use Rattle.rules.specs.Held.{storedAnswer}
 use Rattle.timers.specs.Sets.{isBetween, setOf}
 use Rattle.timers.specs.Promises.{Allocates, Releases}
 use Rattle.timers.proofs.Sets.{ones-count, count-alike, between-one, trailing-run, run-le}
@@ -83,35 +82,36 @@ lowest-some os = omega arith
 
 -- Allocation, case by case.
 module _ (b : Bank) (n limit : ℕ) where
-  pub allocate-2 : isOwner n ≡ false → Allocates b n limit (given.Refused 2) b
-  unfolding bankAllocate allocateBy lowest paperGiven
-  allocate-2 h = sym (simp h)
+  pub allocate-2 : isOwner n ≡ false → Allocates b n limit (storedAnswer (refusedWith 2)) b
+  unfolding bankAllocate allocateBy lowest
+  allocate-2 h = rw h (refl, refl)
 
-  pub allocate-13 : isOwner n ≡ true → atLimit (b .owner) n limit ≡ true → Allocates b n limit (given.Refused 13) b
-  unfolding bankAllocate allocateBy lowest paperGiven
-  allocate-13 h k = sym (simp (h, k))
+  pub allocate-13 : isOwner n ≡ true → atLimit (b .owner) n limit ≡ true → Allocates b n limit (storedAnswer (refusedWith 13)) b
+  unfolding bankAllocate allocateBy lowest
+  allocate-13 h k = rw (h, k) (refl, refl)
 
-  pub allocate-14 : isOwner n ≡ true → atLimit (b .owner) n limit ≡ false → noneFree (b .owner) ≡ true → Allocates b n limit (given.Refused 14) b
-  unfolding bankAllocate allocateBy lowest paperGiven
-  allocate-14 h k f = sym (simp (h, k, f))
+  pub allocate-14 : isOwner n ≡ true → atLimit (b .owner) n limit ≡ false → noneFree (b .owner) ≡ true → Allocates b n limit (storedAnswer (refusedWith 14)) b
+  unfolding bankAllocate allocateBy lowest
+  allocate-14 h k f = rw (h, k, f) (refl, refl)
 
-  pub allocate-0 : (t : ℕ) → isOwner n ≡ true → atLimit (b .owner) n limit ≡ false → noneFree (b .owner) ≡ false → t ≡ lowestFree (b .owner) → Allocates b n limit (given.Number t) (record { owner = set (b .owner) (t - 1) n })
-  unfolding bankAllocate allocateBy lowest paperGiven withAllocated
-  allocate-0 t h k f e = sym (simp (h, k, f, sym e))
+  pub allocate-0 : (t : ℕ) → isOwner n ≡ true → atLimit (b .owner) n limit ≡ false → noneFree (b .owner) ≡ false → t ≡ lowestFree (b .owner)
+      → Allocates b n limit (storedAnswer (numbered t)) (record { owner = set (b .owner) (t - 1) n })
+  unfolding bankAllocate allocateBy lowest withAllocated
+  allocate-0 t h k f e = rw (h, k, f, sym e) (refl, refl)
 
 -- Release, case by case.
 module _ (b : Bank) (n t : ℕ) where
-  pub release-2 : isOwner n ≡ false → Releases b n t (done.Refused 2) b
-  unfolding bankRelease releaseBy lowest paperDone
-  release-2 h = ((λ limit. sym (simp h)), omega arith)
+  pub release-2 : isOwner n ≡ false → Releases b n t (storedAnswer (refusedWith 2)) b
+  unfolding bankRelease releaseBy lowest
+  release-2 h limit = rw h (refl, refl)
 
-  pub release-15 : isOwner n ≡ true → (ownerOf (b .owner) t ≡ n → ⊥) → Releases b n t (done.Refused 15) b
-  unfolding bankRelease releaseBy lowest paperDone notItsTimer
-  release-15 h k = ((λ limit. sym (simp (h, ne-eqb _ _ k))), omega arith)
+  pub release-15 : isOwner n ≡ true → (ownerOf (b .owner) t ≡ n → ⊥) → Releases b n t (storedAnswer (refusedWith 15)) b
+  unfolding bankRelease releaseBy lowest notItsTimer
+  release-15 h k limit = rw (h, ne-eqb _ _ k) (refl, refl)
 
-  pub release-0 : isOwner n ≡ true → ownerOf (b .owner) t ≡ n → Releases b n t done.Accepted (record { owner = set (b .owner) (t - 1) 0 })
-  unfolding bankRelease releaseBy lowest paperDone notItsTimer withReleased
-  release-0 h k = ((λ limit. sym (simp (h, eq-eqb _ _ k))), tt)
+  pub release-0 : isOwner n ≡ true → ownerOf (b .owner) t ≡ n → Releases b n t (storedAnswer accepted) (record { owner = set (b .owner) (t - 1) 0 })
+  unfolding bankRelease releaseBy lowest notItsTimer withReleased
+  release-0 h k limit = rw (h, eq-eqb _ _ k) (refl, refl)
 
 -- a timer that an applet owns is one of the bank's
 pub its-timer : (os : List ℕ) (n t : ℕ) → isOwner n ≡ true → ownerOf os t ≡ n → (1 ≤ t) × (t ≤ length os)

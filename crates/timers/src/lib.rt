@@ -4,28 +4,24 @@ ghost use mathlib.Core.Path.{_≡_};
 ghost use Prim.Native.Nat.{min};
 ghost use Rattle.rules.specs.Applets.{forget};
 ghost use Rattle.rules.specs.Timers.{lowestFree, atLimit, ownerOf, withoutTimers};
+ghost use Rattle.rules.specs.Calls.{refusedWith};
+ghost use Rattle.rules.specs.Held.{storedAnswer};
 ghost use Rattle.timers.specs.Sets.{bit, isBetween, setOf};
 ghost use Rattle.timers.specs.Promises.{Allocates, Releases};
+use rules::Answer;
 use rules::Bank;
-use rules::Done;
-use rules::Given;
 use rules::Roll;
+use rules::refused;
 
 // The last applet number, and the last timer.
 const LAST_APPLET: u8 = Roll::APPLETS as u8;
 
 const LAST_TIMER: u8 = Bank::TIMERS as u8;
 
-// What an allocation hands back: the bank, and the timer given.
-pub struct Allocated {
+// What a timer call hands back.
+pub struct BankReply {
     pub bank: Bank,
-    pub answer: Given,
-}
-
-// What a release hands back.
-pub struct Released {
-    pub bank: Bank,
-    pub answer: Done,
+    pub answer: Answer,
 }
 
 // Whether a number is one of first to last.
@@ -93,61 +89,50 @@ pub fn owner_of(bank: Bank, timer: u8) -> u8
     }
 }
 
+// The bank as it was, and a refusal.
+fn refuse(bank: Bank, refusal: u8) -> BankReply
+    ensures { λ r. ⌜ r ≡ record { bank = bank; answer = storedAnswer (refusedWith refusal) } ⌝ }
+{
+    let answer = paper::of_refusal(refusal);
+    BankReply { bank, answer }
+}
+
 // Gives the applet the lowest free timer, unless it holds its limit.
-pub fn allocate(bank: Bank, applet: u8, limit: u8) -> Allocated
+pub fn allocate(bank: Bank, applet: u8, limit: u8) -> BankReply
     ensures { λ r. ⌜ Allocates bank applet limit (r .answer) (r .bank) ⌝ }
 {
     if !between(applet, 1, LAST_APPLET) {
-        return Allocated {
-            bank,
-            answer: Given::Refused(2),
-        };
+        return refuse(bank, refused::NO_APPLET);
     }
     if at_limit(bank, applet, limit) {
-        return Allocated {
-            bank,
-            answer: Given::Refused(13),
-        };
+        return refuse(bank, refused::TIMER_LIMIT);
     }
     let timer = lowest_free(bank);
     if LAST_TIMER < timer {
-        return Allocated {
-            bank,
-            answer: Given::Refused(14),
-        };
+        return refuse(bank, refused::NO_TIMER_FREE);
     }
     let at = (timer - 1) as usize;
     let mut next = bank;
     next.owner[at] = applet;
-    Allocated {
-        bank: next,
-        answer: Given::Number(timer),
-    }
+    let answer = paper::of_number(0, timer);
+    BankReply { bank: next, answer }
 }
 
 // Frees a timer of the applet.
-pub fn release(bank: Bank, applet: u8, timer: u8) -> Released
+pub fn release(bank: Bank, applet: u8, timer: u8) -> BankReply
     ensures { λ r. ⌜ Releases bank applet timer (r .answer) (r .bank) ⌝ }
 {
     if !between(applet, 1, LAST_APPLET) {
-        return Released {
-            bank,
-            answer: Done::Refused(2),
-        };
+        return refuse(bank, refused::NO_APPLET);
     }
     if owner_of(bank, timer) != applet {
-        return Released {
-            bank,
-            answer: Done::Refused(15),
-        };
+        return refuse(bank, refused::NOT_ITS_TIMER);
     }
     let at = (timer - 1) as usize;
     let mut next = bank;
     next.owner[at] = 0;
-    Released {
-        bank: next,
-        answer: Done::Accepted,
-    }
+    let answer = paper::of_refusal(0);
+    BankReply { bank: next, answer }
 }
 
 // What is left of an owner once an applet owns nothing.

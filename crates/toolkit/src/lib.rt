@@ -3,7 +3,7 @@
 mod calls;
 
 use card::Card;
-use paper::Answer;
+use rules::Answer;
 use rules::Bank;
 use rules::Found;
 use rules::Menu;
@@ -12,7 +12,8 @@ ghost use Rattle.rules.specs.Holds.{document};
 ghost use Rattle.rules.specs.Held.{storedMenu};
 ghost use Rattle.rules.specs.Bytes.{found};
 ghost use Rattle.rules.specs.Beside.{freshCard, menuReader};
-ghost use Rattle.toolkit.specs.Beside.{madeOf, spotOf, contentSpot, Allots, Frees};
+ghost use Rattle.timers.specs.Promises.{Allocates, Releases};
+ghost use Rattle.toolkit.specs.Beside.{madeOf, spotOf, contentSpot};
 
 // A fresh card, and the refusal's number (0: none).
 #[repr(C)]
@@ -36,8 +37,7 @@ pub extern "C" fn toolkit_fresh(title: &[u8]) -> Made
 {
     let made = Card::fresh(title);
     let card = made.card;
-    let done = made.answer;
-    let answer = paper::of_done(done);
+    let answer = made.answer;
     Made {
         card,
         refusal: answer.refusal,
@@ -64,7 +64,7 @@ pub extern "C" fn toolkit_find(run: &[u8], tag: u16, occurrence: usize) -> Spot
     }
 }
 
-// Where the handler's content stands in an envelope: at its end.
+// Where the handler's content stands in an envelope, at its end; nowhere where the envelope is malformed.
 #[no_mangle]
 pub extern "C" fn toolkit_content(envelope: &[u8]) -> Spot
     ensures { λ r. ⌜ r ≡ contentSpot (now (envelope .entry)) ⌝ }
@@ -89,15 +89,21 @@ pub extern "C" fn toolkit_read_menu(bytes: &[u8]) -> Menu
 // Gives an applet the lowest free timer of a bank.
 #[no_mangle]
 pub extern "C" fn toolkit_bank_allocate(bank: &mut Bank, applet: u8, limit: u8) -> Answer
-    ensures { λ r. ⌜ Allots (now (bank .entry)) applet limit r (now (bank .exit)) ⌝ }
+    ensures { λ r. ⌜ Allocates (now (bank .entry)) applet limit r (now (bank .exit)) ⌝ }
 {
-    paper::of_given(lent::allocate_in(bank, applet, limit))
+    let before = *bank;
+    let after = timers::allocate(before, applet, limit);
+    *bank = after.bank;
+    after.answer
 }
 
 // Frees a timer of an applet in a bank.
 #[no_mangle]
 pub extern "C" fn toolkit_bank_release(bank: &mut Bank, applet: u8, timer: u8) -> Answer
-    ensures { λ r. ⌜ Frees (now (bank .entry)) applet timer r (now (bank .exit)) ⌝ }
+    ensures { λ r. ⌜ Releases (now (bank .entry)) applet timer r (now (bank .exit)) ⌝ }
 {
-    paper::of_done(lent::release_in(bank, applet, timer))
+    let before = *bank;
+    let after = timers::release(before, applet, timer);
+    *bank = after.bank;
+    after.answer
 }

@@ -2,7 +2,7 @@
 -- Assumes nothing.
 use mathlib.Core.Path.{subst⁻¹}
 use borrow.Author.Needs.{needs}
-use Rattle.card.specs.declared.Changed.{Changed}
+use Rattle.card.specs.declared.Reply.{Reply}
 use Rattle.card.specs.View.{Left}
 use Rattle.card.proofs.FreshCard.{fresh-left}
 use Rattle.floor.proofs.main.Statement.{statement}
@@ -18,7 +18,7 @@ fresh-requires : tie.Need-fresh-requires
 fresh-requires c κs = search needs
 
 obey-input-requires : tie.Need-obey-input-requires
-obey-input-requires c κs = subst⁻¹ (λ (x : Changed). Left (x .card)) (c .before .fresh .ensures) (fresh-left _)
+obey-input-requires c κs = subst⁻¹ (λ (x : Reply). Left (x .card)) (c .before .fresh .ensures) (fresh-left _)
 
 returns : tie.Need-returns
 returns c = search needs

@@ -1,9 +1,9 @@
 -- `installed` meets its contract: each install leaves a card that calls have left. Assumes nothing.
 use Prim.Native.Nat.{_≤_, _-_}
 use mathlib.Core.Path.{subst⁻¹}
-use Rattle.card.specs.declared.Changed.{Changed}
+use Rattle.card.specs.declared.Reply.{Reply}
 use Rattle.card.specs.View.{Left}
-use Rattle.card.specs.Reply.{changedBy}
+use Rattle.card.specs.Replies.{replied}
 use Rattle.card.proofs.Left.{left-again}
 use borrow.Author.Needs.{needs}
 use Rattle.menus.proofs.installed.Statement.{statement}
@@ -28,8 +28,8 @@ loop-less : tie.Need-loop-less Inv-loop μ-loop
 loop-less c = search needs
 
 loop-again : tie.Need-loop-again Inv-loop μ-loop
-unfolding changedBy
-loop-again c = (search needs, subst⁻¹ (λ (x : Changed). Left (x .card)) (c .before .install .ensures) (left-again _ _ (c .before .before .before .loop .inv .1)))
+unfolding replied
+loop-again c = (search needs, subst⁻¹ (λ (x : Reply). Left (x .card)) (c .before .install .ensures) (left-again _ _ (c .before .before .before .loop .inv .1)))
 
 returns : tie.Need-returns Inv-loop μ-loop
 returns c = c .before .loop .inv .1

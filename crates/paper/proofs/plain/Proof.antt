@@ -1,7 +1,7 @@
 -- `paper::plain` meets its contract.
 -- Assumes nothing.
 use mathlib.Core.Path.{refl}
-use Rattle.paper.specs.Answers.{storedAnswer}
+use Rattle.rules.specs.Held.{storedAnswer}
 use Rattle.lists.specs.Lists.{padded}
 use Rattle.paper.proofs.plain.Statement.{statement}
 use Rattle.paper.proofs.plain.Tie as tie

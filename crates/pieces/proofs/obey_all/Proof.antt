@@ -90,7 +90,7 @@ unasked-requires c κs = search needs
 made
     : (j : tie.At-match-came Inv-loop μ-loop)
     → let l = j .before .before .before .before .before .before .before .before .loop in
-    Made (view (l .left)) (j .before .before .read .result) (j .match .ask) (j .before .before .before .byte-at2 .result) (now (j .before .arguments .result)) (l .command) (j .match .command) (j .match .posted)
+    Made (view (l .left)) (j .before .before .read .result) (j .match .ask) (j .before .before .before .byte-at2 .result) (now (j .before .arguments .result)) (l .command) (j .match .command) (j .match .reply)
 made j =
     let l = j .before .before .before .before .before .before .before .before .loop in
     let a = j .before .before .before .byte-at2 .result in

@@ -11,12 +11,9 @@ use Rattle.toolkit.proofs.toolkit_fresh.Tie as tie
 fresh-requires : tie.Need-fresh-requires
 fresh-requires c κs = search needs
 
-of-done-requires : tie.Need-of-done-requires
-of-done-requires c κs = search needs
-
 returns : tie.Need-returns
 returns c =
-    made-is (freshCard document (now (c .before .before .before .before .args .title))) (c .before .before .fresh .ensures) (c .of-done .ensures)
+    made-is (freshCard document (now (c .before .before .before .before .args .title))) (c .before .before .fresh .ensures)
 
 pub toolkit-fresh-spec : {M : Type 1} → statement M
-toolkit-fresh-spec = tie.close (tie.spec fresh-requires of-done-requires returns)
+toolkit-fresh-spec = tie.close (tie.spec fresh-requires returns)

@@ -25,7 +25,7 @@ allocate-requires c κs = search needs
 
 returns : tie.Need-returns
 returns c =
-    let a = c .before in
+    let a = c .before .before in
     let g = a .before .before in
     let o = g .before .before in
     let h = o .before in

@@ -10,7 +10,7 @@ use Rattle.card.proofs.Card.ask_event.Lts as lts
 use Rattle.events.proofs.kind_of.Reads as kind-of-reads
 use Rattle.events.proofs.place_of.Reads as place-of-reads
 use Rattle.card.proofs.registering.is_listed.Reads as is-listed-reads
-use Rattle.card.proofs.registering.told_of.Reads as told-of-reads
+use Rattle.paper.proofs.of_yes_or_no.Reads as of-yes-or-no-reads
 use Rattle.refusals.proofs.refusal_for.Reads as refusal-for-reads
 use Rattle.sets.proofs.has.Reads as has-reads
 
@@ -38,8 +38,8 @@ array-read-set c =
 is-listed-requires : tie.Need-is-listed-requires
 is-listed-requires c κs = search needs
 
-told-of-requires : tie.Need-told-of-requires
-told-of-requires c κs = search needs
+of-yes-or-no-requires : tie.Need-of-yes-or-no-requires
+of-yes-or-no-requires c κs = search needs
 
 returns : tie.Need-returns
 returns c =
@@ -50,7 +50,7 @@ returns c =
     let k = h .before in
     let s = k .before in
     asks-event (s .args .self) (s .pre) (s .args .applet) (s .args .value) (kind-of-value _ (s .fits .value) (k .kind-of .ensures))
-    (h .has .ensures) (r .refusal-for .ensures) (p .place-of .ensures) (i .is-listed .ensures) (c .told-of .ensures)
+    (h .has .ensures) (r .refusal-for .ensures) (p .place-of .ensures) (i .is-listed .ensures) (c .of-yes-or-no .ensures)
 
 pub ask-event-spec : {M : Type 1} → statement M
 ask-event-spec =
@@ -63,5 +63,5 @@ ask-event-spec =
     cast-p
     array-read-set
     is-listed-requires
-    told-of-requires
+    of-yes-or-no-requires
     returns)

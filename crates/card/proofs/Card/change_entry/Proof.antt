@@ -8,7 +8,7 @@ use Rattle.card.proofs.Card.change_entry.Tie as tie
 use Rattle.card.proofs.Card.change_entry.Reads as reads
 use Rattle.card.proofs.Card.change_entry.Lts as lts
 use Rattle.applets.proofs.grant_at.Reads as grant-at-reads
-use Rattle.card.proofs.done_of.Reads as done-of-reads
+use Rattle.paper.proofs.of_refusal.Reads as of-refusal-reads
 use Rattle.card.proofs.due_after.Reads as due-after-reads
 use Rattle.refusals.proofs.change_refusal.Reads as change-refusal-reads
 use Rattle.refusals.proofs.fits.Reads as fits-reads
@@ -36,8 +36,8 @@ due-after-requires c κs = search needs
 change-refusal-requires : tie.Need-change-refusal-requires
 change-refusal-requires c κs = search needs
 
-done-of-requires : tie.Need-done-of-requires
-done-of-requires c κs = search needs
+of-refusal-requires : tie.Need-of-refusal-requires
+of-refusal-requires c κs = search needs
 
 returns : tie.Need-returns
 returns c =
@@ -50,7 +50,7 @@ returns c =
     let h = v .before in
     let s = h .before .before in
     changes-words (s .args .self) (s .pre) (s .args .applet) (s .args .identifier) (s .args .help) (s .args .text .now)
-    (h .has .ensures) (v .has2 .ensures) (g .grant-at .ensures) (f .fits2 .ensures) (w .changed .ensures) (d .due-after .ensures) (r .change-refusal .ensures) (c .done-of .ensures)
+    (h .has .ensures) (v .has2 .ensures) (g .grant-at .ensures) (f .fits2 .ensures) (w .changed .ensures) (d .due-after .ensures) (r .change-refusal .ensures) (c .of-refusal .ensures)
 
 pub change-entry-spec : {M : Type 1} → statement M
 change-entry-spec =
@@ -63,5 +63,5 @@ change-entry-spec =
     changed-requires
     due-after-requires
     change-refusal-requires
-    done-of-requires
+    of-refusal-requires
     returns)

@@ -14,7 +14,7 @@ use Rattle.card.proofs.Card.delete.Lts as lts
 use Rattle.applets.proofs.made_with.Reads as made-with-reads
 use Rattle.applets.proofs.roll_without.Reads as roll-without-reads
 use Rattle.applets.proofs.unregistered.Reads as unregistered-reads
-use Rattle.card.proofs.done_of.Reads as done-of-reads
+use Rattle.paper.proofs.of_refusal.Reads as of-refusal-reads
 use Rattle.card.proofs.due_after.Reads as due-after-reads
 use Rattle.card.proofs.locking.absent_refusal.Reads as absent-refusal-reads
 use Rattle.card.proofs.locking.menu_turns.Reads as menu-turns-reads
@@ -68,8 +68,8 @@ without-requires c κs = tidy-rows _ (c .before .before .before .before .before 
 absent-refusal-requires : tie.Need-absent-refusal-requires
 absent-refusal-requires c κs = search needs
 
-done-of-requires : tie.Need-done-of-requires
-done-of-requires c κs = search needs
+of-refusal-requires : tie.Need-of-refusal-requires
+of-refusal-requires c κs = search needs
 
 returns : tie.Need-returns
 returns c =
@@ -82,8 +82,8 @@ returns c =
     (w .19
     ∙ removes (s .args .self) (s .pre) (s .args .applet) (sym (h .has .ensures) ∙ w .0 .taken)
     (w .1 .ensures) (w .7 .ensures) (w .8 .ensures) (w .9 .ensures) (w .10 .ensures) (w .11 .ensures) (w .12 .ensures) (w .13 .ensures) (w .14 .ensures) (w .15 .ensures) (w .16 .ensures))
-    (c .done-of .ensures))
-    (λ w. deletes-none (s .args .self) (s .pre) (s .args .applet) (h .has .ensures) (a .absent-refusal .ensures) (w .0 .left) (w .1) (c .done-of .ensures))
+    (c .of-refusal .ensures))
+    (λ w. deletes-none (s .args .self) (s .pre) (s .args .applet) (h .has .ensures) (a .absent-refusal .ensures) (w .0 .left) (w .1) (c .of-refusal .ensures))
     (j .if1 .came)
 
 pub delete-spec : {M : Type 1} → statement M
@@ -103,5 +103,5 @@ delete-spec =
     forgotten-requires
     without-requires
     absent-refusal-requires
-    done-of-requires
+    of-refusal-requires
     returns)

@@ -8,7 +8,7 @@ use Rattle.card.proofs.Card.enable_entry.Statement.{statement}
 use Rattle.card.proofs.Card.enable_entry.Tie as tie
 use Rattle.card.proofs.Card.enable_entry.Reads as reads
 use Rattle.card.proofs.Card.enable_entry.Lts as lts
-use Rattle.card.proofs.done_of.Reads as done-of-reads
+use Rattle.paper.proofs.of_refusal.Reads as of-refusal-reads
 use Rattle.card.proofs.due_after.Reads as due-after-reads
 use Rattle.refusals.proofs.row_refusal.Reads as row-refusal-reads
 use Rattle.rows.proofs.enabled.Reads as enabled-reads
@@ -29,8 +29,8 @@ due-after-requires c κs = search needs
 row-refusal-requires : tie.Need-row-refusal-requires
 row-refusal-requires c κs = search needs
 
-done-of-requires : tie.Need-done-of-requires
-done-of-requires c κs = search needs
+of-refusal-requires : tie.Need-of-refusal-requires
+of-refusal-requires c κs = search needs
 
 returns : tie.Need-returns
 returns c =
@@ -41,7 +41,7 @@ returns c =
     let h = v .before in
     let s = h .before in
     turns-entry (s .args .self) (s .pre) (s .args .applet) (s .args .identifier) true
-    (h .has .ensures) (v .has2 .ensures) (w .enabled .ensures) (d .due-after .ensures) (r .row-refusal .ensures) (c .done-of .ensures)
+    (h .has .ensures) (v .has2 .ensures) (w .enabled .ensures) (d .due-after .ensures) (r .row-refusal .ensures) (c .of-refusal .ensures)
 
 pub enable-entry-spec : {M : Type 1} → statement M
 enable-entry-spec =
@@ -52,5 +52,5 @@ enable-entry-spec =
     enabled-requires
     due-after-requires
     row-refusal-requires
-    done-of-requires
+    of-refusal-requires
     returns)

@@ -7,7 +7,7 @@ use Rattle.card.proofs.Card.fresh.Statement.{statement}
 use Rattle.card.proofs.Card.fresh.Tie as tie
 use Rattle.card.proofs.Card.fresh.Reads as reads
 use Rattle.card.proofs.Card.fresh.Lts as lts
-use Rattle.card.proofs.done_of.Reads as done-of-reads
+use Rattle.paper.proofs.of_refusal.Reads as of-refusal-reads
 use Rattle.card.proofs.fresh.kept_length.Reads as kept-length-reads
 use Rattle.card.proofs.fresh.made.Reads as made-reads
 use Rattle.refusals.proofs.title_refusal.Reads as title-refusal-reads
@@ -30,15 +30,15 @@ made-requires c κs =
     let r = n .before in
     kept-short (now (r .before .before .args .title)) (r .title-refusal .ensures) (n .kept-length .ensures)
 
-done-of-requires : tie.Need-done-of-requires
-done-of-requires c κs = search needs
+of-refusal-requires : tie.Need-of-refusal-requires
+of-refusal-requires c κs = search needs
 
 returns : tie.Need-returns
 returns c =
     let m = c .before in
     let n = m .before .before in
     let r = n .before in
-    freshens (now (r .before .before .args .title)) (r .title-refusal .ensures) (n .kept-length .ensures) (m .made .ensures) (c .done-of .ensures)
+    freshens (now (r .before .before .args .title)) (r .title-refusal .ensures) (n .kept-length .ensures) (m .made .ensures) (c .of-refusal .ensures)
 
 pub fresh-spec : {M : Type 1} → statement M
 fresh-spec =
@@ -48,5 +48,5 @@ fresh-spec =
     kept-length-requires
     slice-aggregate-made
     made-requires
-    done-of-requires
+    of-refusal-requires
     returns)

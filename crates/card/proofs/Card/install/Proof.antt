@@ -2,7 +2,7 @@
 -- Assumes nothing.
 use mathlib.Core.Logic.{⊎-elim}
 use Rattle.card.proofs.Order.{order-form, order-eight}
-use Rattle.card.proofs.Installs.{from-one, to-eight, count-room, accepts, with-newcomer, as-it-was, replies}
+use Rattle.card.proofs.Installs.{from-one, to-eight, count-room, accepts, with-newcomer, as-it-was, install-replies}
 use borrow.Author.Needs.{needs}
 use Rattle.card.proofs.Card.install.Statement.{statement}
 use Rattle.card.proofs.Card.install.Tie as tie
@@ -27,8 +27,8 @@ roll-with-requires c κs =
 turned-requires : tie.Need-turned-requires
 turned-requires c κs = search needs
 
-done-of-requires : tie.Need-done-of-requires
-done-of-requires c κs = search needs
+of-refusal-requires : tie.Need-of-refusal-requires
+of-refusal-requires c κs = search needs
 
 returns : tie.Need-returns
 returns c =
@@ -39,12 +39,12 @@ returns c =
     let n = s .args .applet in
     let q = s .args .request in
     let e = f .install-refusal .ensures in
-    replies k l n q e
+    install-replies k l n q e
     (⊎-elim
     (λ w. with-newcomer k l n q e (w .0 .taken) (w .1 .ensures n) (w .2 .ensures) (w .3 .ensures) (w .4))
     (λ w. as-it-was k l n q e (w .0 .left) (w .1))
     (c .before .if1 .came))
-    (c .done-of .ensures)
+    (c .of-refusal .ensures)
 
 pub install-spec : {M : Type 1} → statement M
 install-spec =
@@ -54,5 +54,5 @@ install-spec =
     granted-requires
     roll-with-requires
     turned-requires
-    done-of-requires
+    of-refusal-requires
     returns)

@@ -10,7 +10,7 @@ use Rattle.card.proofs.Card.lock.Statement.{statement}
 use Rattle.card.proofs.Card.lock.Tie as tie
 use Rattle.card.proofs.Card.lock.Reads as reads
 use Rattle.card.proofs.Card.lock.Lts as lts
-use Rattle.card.proofs.done_of.Reads as done-of-reads
+use Rattle.paper.proofs.of_refusal.Reads as of-refusal-reads
 use Rattle.card.proofs.due_after.Reads as due-after-reads
 use Rattle.card.proofs.locking.absent_refusal.Reads as absent-refusal-reads
 use Rattle.card.proofs.locking.lock_turns.Reads as lock-turns-reads
@@ -43,8 +43,8 @@ due-after-requires-2 c κs = search needs
 absent-refusal-requires : tie.Need-absent-refusal-requires
 absent-refusal-requires c κs = search needs
 
-done-of-requires : tie.Need-done-of-requires
-done-of-requires c κs = search needs
+of-refusal-requires : tie.Need-of-refusal-requires
+of-refusal-requires c κs = search needs
 
 returns : tie.Need-returns
 returns c =
@@ -55,8 +55,8 @@ returns c =
     let s = h .before in
     ⊎-elim
     (λ w. lock-turned (s .args .self) (s .pre) (s .args .applet) false (h .has .ensures) (a .absent-refusal .ensures) (sym (t .lock-turns .ensures) ∙ w .0 .taken)
-    (w .1 .ensures) (w .3 .ensures) (w .5 .ensures) (w .6 .ensures) (w .7 .ensures) (w .10) (c .done-of .ensures))
-    (λ w. lock-still (s .args .self) (s .pre) (s .args .applet) false (h .has .ensures) (a .absent-refusal .ensures) (sym (t .lock-turns .ensures) ∙ w .0 .left) (w .1) (c .done-of .ensures))
+    (w .1 .ensures) (w .3 .ensures) (w .5 .ensures) (w .6 .ensures) (w .7 .ensures) (w .10) (c .of-refusal .ensures))
+    (λ w. lock-still (s .args .self) (s .pre) (s .args .applet) false (h .has .ensures) (a .absent-refusal .ensures) (sym (t .lock-turns .ensures) ∙ w .0 .left) (w .1) (c .of-refusal .ensures))
     (j .if1 .came)
 
 pub lock-spec : {M : Type 1} → statement M
@@ -71,5 +71,5 @@ lock-spec =
     due-after-requires
     due-after-requires-2
     absent-refusal-requires
-    done-of-requires
+    of-refusal-requires
     returns)

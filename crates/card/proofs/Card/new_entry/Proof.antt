@@ -50,8 +50,8 @@ has-requires-2 c κs = search needs
 due-after-requires : tie.Need-due-after-requires
 due-after-requires c κs = search needs
 
-given-of-requires : tie.Need-given-of-requires
-given-of-requires c κs = search needs
+of-number-requires : tie.Need-of-number-requires
+of-number-requires c κs = search needs
 
 returns : tie.Need-returns
 returns c =
@@ -64,9 +64,9 @@ returns c =
     let s = h .before .before in
     ⊎-elim
     (λ w. new-accepted (s .args .self) (s .pre) (s .args .applet) (s .args .help) (s .args .text .now) (h .has .ensures) (g .grant-at .ensures) (k .made-at .ensures) (f .fits2 .ensures) (r .new-refusal .ensures) (w .0 .taken)
-    (c .given-of .ensures) (w .2 .ensures) (w .3 .ensures) (w .5 .ensures) (w .6 .ensures) (w .7 .ensures) (w .9) (w .10))
+    (c .of-number .ensures) (w .2 .ensures) (w .3 .ensures) (w .5 .ensures) (w .6 .ensures) (w .7 .ensures) (w .9) (w .10))
     (λ w. new-refused (s .args .self) (s .pre) (s .args .applet) (s .args .help) (s .args .text .now) (h .has .ensures) (g .grant-at .ensures) (k .made-at .ensures) (f .fits2 .ensures) (r .new-refusal .ensures)
-    (j .if1 .identifier) (c .given-of .ensures) (w .0 .left) (w .1))
+    (j .if1 .identifier) (c .of-number .ensures) (w .0 .left) (w .1))
     (j .if1 .came)
 
 pub new-entry-spec : {M : Type 1} → statement M
@@ -84,5 +84,5 @@ new-entry-spec =
     made-with-requires
     has-requires-2
     due-after-requires
-    given-of-requires
+    of-number-requires
     returns)

@@ -19,8 +19,8 @@ called-requires c κs = search needs
 listed-requires : tie.Need-listed-requires
 listed-requires c κs = count-small _ (c .before .before .before .before .before .pre)
 
-proactive-only-requires : tie.Need-proactive-only-requires
-proactive-only-requires c κs = search needs
+other-marks-requires : tie.Need-other-marks-requires
+other-marks-requires c κs = search needs
 
 answered-requires : tie.Need-answered-requires
 answered-requires c κs = search needs
@@ -44,7 +44,7 @@ returns c =
     let k = n .before in
     let w = k .before .before in
     let r = w .before .before in
-    begins-session _ (r .before .before .pre) _ (r .refusal-if .ensures) (w .called .ensures) (k .listed .ensures) (n .proactive-only .ensures) (a .answered .ensures)
+    begins-session _ (r .before .before .pre) _ (r .refusal-if .ensures) (w .called .ensures) (k .listed .ensures) (n .other-marks .ensures) (a .answered .ensures)
     (x .has-shown-row .ensures) (y .any-listened .ensures) (d .begun .ensures) (c .if1 .taken)
 
 returns-2 : tie.Need-returns-2
@@ -54,7 +54,7 @@ returns-2 c =
     let k = n .before in
     let w = k .before .before in
     let r = w .before .before in
-    refuses-profile _ (r .before .before .pre) _ (r .refusal-if .ensures) (w .called .ensures) (k .listed .ensures) (n .proactive-only .ensures) (a .answered .ensures)
+    refuses-profile _ (r .before .before .pre) _ (r .refusal-if .ensures) (w .called .ensures) (k .listed .ensures) (n .other-marks .ensures) (a .answered .ensures)
     (c .if1 .left)
 
 pub profile-spec : {M : Type 1} → statement M
@@ -65,7 +65,7 @@ profile-spec =
     array-read-whom
     called-requires
     listed-requires
-    proactive-only-requires
+    other-marks-requires
     answered-requires
     has-shown-row-requires
     any-listened-requires

@@ -21,7 +21,7 @@ release-requires c κs = search needs
 
 returns : tie.Need-returns
 returns c =
-    let a = c .before in
+    let a = c .before .before in
     let o = a .before .before in
     let h = o .before in
     let s = h .before in

@@ -6,7 +6,7 @@ use Rattle.card.proofs.Card.response.Statement.{statement}
 use Rattle.card.proofs.Card.response.Tie as tie
 use Rattle.card.proofs.Card.response.Reads as reads
 use Rattle.card.proofs.Card.response.Lts as lts
-use Rattle.card.proofs.done_of.Reads as done-of-reads
+use Rattle.paper.proofs.of_refusal.Reads as of-refusal-reads
 use Rattle.card.proofs.proactive.outstanding_after.Reads as outstanding-after-reads
 use Rattle.refusals.proofs.response_refusal.Reads as response-refusal-reads
 
@@ -16,16 +16,16 @@ response-refusal-requires c κs = search needs
 outstanding-after-requires : tie.Need-outstanding-after-requires
 outstanding-after-requires c κs = search needs
 
-done-of-requires : tie.Need-done-of-requires
-done-of-requires c κs = search needs
+of-refusal-requires : tie.Need-of-refusal-requires
+of-refusal-requires c κs = search needs
 
 returns : tie.Need-returns
 returns c =
     let o = c .before .before in
     let r = o .before in
-    responds (r .before .args .self) (r .before .pre) (r .response-refusal .ensures) (o .outstanding-after .ensures) (c .done-of .ensures)
+    responds (r .before .args .self) (r .before .pre) (r .response-refusal .ensures) (o .outstanding-after .ensures) (c .of-refusal .ensures)
 
 pub response-spec : {M : Type 1} → statement M
 response-spec =
     tie.close
-    (tie.spec response-refusal-requires outstanding-after-requires done-of-requires returns)
+    (tie.spec response-refusal-requires outstanding-after-requires of-refusal-requires returns)

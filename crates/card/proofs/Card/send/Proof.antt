@@ -7,7 +7,7 @@ use Rattle.card.proofs.Card.send.Statement.{statement}
 use Rattle.card.proofs.Card.send.Tie as tie
 use Rattle.card.proofs.Card.send.Reads as reads
 use Rattle.card.proofs.Card.send.Lts as lts
-use Rattle.card.proofs.done_of.Reads as done-of-reads
+use Rattle.paper.proofs.of_refusal.Reads as of-refusal-reads
 use Rattle.card.proofs.proactive.outstanding_after.Reads as outstanding-after-reads
 use Rattle.envelopes.proofs.read_command.Reads as read-command-reads
 use Rattle.refusals.proofs.send_refusal.Reads as send-refusal-reads
@@ -25,8 +25,8 @@ send-refusal-requires c κs = search needs
 outstanding-after-requires : tie.Need-outstanding-after-requires
 outstanding-after-requires c κs = search needs
 
-done-of-requires : tie.Need-done-of-requires
-done-of-requires c κs = search needs
+of-refusal-requires : tie.Need-of-refusal-requires
+of-refusal-requires c κs = search needs
 
 returns : tie.Need-returns
 returns c =
@@ -36,7 +36,7 @@ returns c =
     let k = h .before in
     let s = k .before .before in
     sends (s .args .self) (s .pre) (s .args .applet) (now (s .args .bytes)) (k .read-command .ensures) (h .has .ensures)
-    (r .send-refusal .ensures) (o .outstanding-after .ensures) (c .done-of .ensures)
+    (r .send-refusal .ensures) (o .outstanding-after .ensures) (c .of-refusal .ensures)
 
 pub send-spec : {M : Type 1} → statement M
 send-spec =
@@ -46,5 +46,5 @@ send-spec =
     has-requires
     send-refusal-requires
     outstanding-after-requires
-    done-of-requires
+    of-refusal-requires
     returns)

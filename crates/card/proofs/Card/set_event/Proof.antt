@@ -8,7 +8,7 @@ use Rattle.card.proofs.Card.set_event.Statement.{statement}
 use Rattle.card.proofs.Card.set_event.Tie as tie
 use Rattle.card.proofs.Card.set_event.Reads as reads
 use Rattle.card.proofs.Card.set_event.Lts as lts
-use Rattle.card.proofs.done_of.Reads as done-of-reads
+use Rattle.paper.proofs.of_refusal.Reads as of-refusal-reads
 use Rattle.card.proofs.due_after.Reads as due-after-reads
 use Rattle.card.proofs.registering.owner_after.Reads as owner-after-reads
 use Rattle.card.proofs.registering.set_after.Reads as set-after-reads
@@ -57,8 +57,8 @@ array-write-registered c =
     let k = p .before .before .before in
     place-within _ (kind-of-value _ (k .before .fits .value) (k .kind-of .ensures)) (p .place-of .ensures)
 
-done-of-requires : tie.Need-done-of-requires
-done-of-requires c κs = search needs
+of-refusal-requires : tie.Need-of-refusal-requires
+of-refusal-requires c κs = search needs
 
 returns : tie.Need-returns
 returns c =
@@ -72,7 +72,7 @@ returns c =
     let k = h .before in
     let s = k .before in
     turns-event (s .args .self) (s .pre) (s .args .applet) (s .args .value) true (kind-of-value _ (s .fits .value) (k .kind-of .ensures))
-    (h .has .ensures) (r .refusal-to-set .ensures) (p .place-of .ensures) (g .set-after .ensures) (e .events-turn .ensures) (o .owner-after .ensures) (d .due-after .ensures) (c .done-of .ensures)
+    (h .has .ensures) (r .refusal-to-set .ensures) (p .place-of .ensures) (g .set-after .ensures) (e .events-turn .ensures) (o .owner-after .ensures) (d .due-after .ensures) (c .of-refusal .ensures)
 
 pub set-event-spec : {M : Type 1} → statement M
 set-event-spec =
@@ -89,5 +89,5 @@ set-event-spec =
     owner-after-requires
     due-after-requires
     array-write-registered
-    done-of-requires
+    of-refusal-requires
     returns)

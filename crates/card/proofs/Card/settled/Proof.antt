@@ -24,8 +24,8 @@ array-write-registered c = search needs
 listed-requires : tie.Need-listed-requires
 listed-requires c κs = count-small _ (c .before .before .before .before .before .pre)
 
-proactive-only-requires : tie.Need-proactive-only-requires
-proactive-only-requires c κs = search needs
+other-marks-requires : tie.Need-other-marks-requires
+other-marks-requires c κs = search needs
 
 answered-requires : tie.Need-answered-requires
 answered-requires c κs = search needs
@@ -37,7 +37,7 @@ returns c =
     let o = k .before .before in
     let w = o .before in
     let r = w .before .before in
-    settles _ (r .before .pre) (r .refusal-if .ensures) (w .called .ensures) (o .without .ensures) (k .listed .ensures) (n .proactive-only .ensures) (c .answered .ensures)
+    settles _ (r .before .pre) (r .refusal-if .ensures) (w .called .ensures) (o .without .ensures) (k .listed .ensures) (n .other-marks .ensures) (c .answered .ensures)
 
 pub settled-spec : {M : Type 1} → statement M
 settled-spec =
@@ -49,6 +49,6 @@ settled-spec =
     without-requires
     array-write-registered
     listed-requires
-    proactive-only-requires
+    other-marks-requires
     answered-requires
     returns)

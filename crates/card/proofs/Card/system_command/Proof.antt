@@ -13,7 +13,7 @@ use Rattle.card.proofs.Card.system_command.Statement.{statement}
 use Rattle.card.proofs.Card.system_command.Tie as tie
 use Rattle.card.proofs.Card.system_command.Reads as reads
 use Rattle.card.proofs.Card.system_command.Lts as lts
-use Rattle.card.proofs.given_of.Reads as given-of-reads
+use Rattle.paper.proofs.of_number.Reads as of-number-reads
 use Rattle.card.proofs.handing.is_handed.Reads as is-handed-reads
 use Rattle.card.proofs.handing.put_events.Reads as put-events-reads
 use Rattle.card.proofs.handing.put_menu.Reads as put-menu-reads
@@ -48,8 +48,8 @@ First =
       put-menu-reads.Learnt,
       put-events-reads.Asked,
       put-events-reads.Learnt,
-      given-of-reads.Asked,
-      given-of-reads.Learnt,
+      of-number-reads.Asked,
+      of-number-reads.Learnt,
     )
     reads.Pre reads.Post
 
@@ -64,8 +64,8 @@ Second =
       put-menu-reads.Learnt,
       put-events-reads.Asked,
       put-events-reads.Learnt,
-      given-of-reads.Asked,
-      given-of-reads.Learnt,
+      of-number-reads.Asked,
+      of-number-reads.Learnt,
     )
     reads.Pre reads.Post
 
@@ -106,11 +106,11 @@ put-events-requires c κs =
     let room : 256 ≤ length (now (s .args .buf)) = handed-room _ _ _ (r .hand-refusal .ensures) (e .is-handed2 .ensures) (i .if2 .taken) in
     omega (arith, room, menu-written first .0 .long)
 
-cast-given-of : tie.Need-cast-given-of
-cast-given-of c = omega (arith, due-written (c .before) .1)
+cast-of-number : tie.Need-cast-of-number
+cast-of-number c = omega (arith, due-written (c .before) .1)
 
-given-of-requires : tie.Need-given-of-requires
-given-of-requires c κs = search needs
+of-number-requires : tie.Need-of-number-requires
+of-number-requires c κs = search needs
 
 same-length : tie.Need-same-length
 same-length c = due-written (c .before .before) .0 .long
@@ -122,7 +122,7 @@ returns c =
     let m = e .before in
     let r = m .before in
     let s = r .before .before in
-    hands-out (s .args .self) (s .pre) (now (s .args .buf)) (r .hand-refusal .ensures) (m .is-handed .ensures) (e .is-handed2 .ensures) (due-written second) (c .given-of .ensures)
+    hands-out (s .args .self) (s .pre) (now (s .args .buf)) (r .hand-refusal .ensures) (m .is-handed .ensures) (e .is-handed2 .ensures) (due-written second) (c .of-number .ensures)
 
 pub system-command-spec : {M : Type 1} → statement M
 system-command-spec =
@@ -133,7 +133,7 @@ system-command-spec =
     is-handed-requires-2
     put-menu-requires
     put-events-requires
-    cast-given-of
-    given-of-requires
+    cast-of-number
+    of-number-requires
     same-length
     returns)

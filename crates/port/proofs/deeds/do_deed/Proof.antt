@@ -9,10 +9,9 @@ use Rattle.rules.specs.declared.Request.{Request}
 use Rattle.rules.specs.Calls.{admin, event, install, setEvent, clearEvent}
 use Rattle.rules.specs.Step.{step}
 use Rattle.card.specs.View.{view}
-use Rattle.card.specs.Reply.{changedBy}
-use Rattle.card.specs.Kinds.{is-admin, is-set, is-clear, is-proactive}
+use Rattle.card.specs.Replies.{replied}
 use Rattle.asks.specs.Asks.{deedCall}
-use Rattle.port.proofs.PostLaws.{deed-as, done-posts}
+use Rattle.port.proofs.PostLaws.{deed-as}
 use borrow.Author.Needs.{needs}
 use Rattle.port.proofs.deeds.do_deed.Statement.{statement}
 use Rattle.port.proofs.deeds.do_deed.Tie as tie
@@ -26,17 +25,11 @@ request-requires c κs = search needs
 install-requires : tie.Need-install-requires
 install-requires c κs = search needs
 
-changed-requires : tie.Need-changed-requires
-changed-requires c κs = search needs
-
 enum-told-2 : tie.Need-enum-told-2
 enum-told-2 c = search needs
 
 delete-requires : tie.Need-delete-requires
 delete-requires c κs = search needs
-
-changed-requires-2 : tie.Need-changed-requires-2
-changed-requires-2 c κs = search needs
 
 enum-told-3 : tie.Need-enum-told-3
 enum-told-3 c = search needs
@@ -44,17 +37,11 @@ enum-told-3 c = search needs
 lock-requires : tie.Need-lock-requires
 lock-requires c κs = search needs
 
-changed-requires-3 : tie.Need-changed-requires-3
-changed-requires-3 c κs = search needs
-
 enum-told-4 : tie.Need-enum-told-4
 enum-told-4 c = search needs
 
 unlock-requires : tie.Need-unlock-requires
 unlock-requires c κs = search needs
-
-changed-requires-4 : tie.Need-changed-requires-4
-changed-requires-4 c κs = search needs
 
 enum-told-5 : tie.Need-enum-told-5
 enum-told-5 c = search needs
@@ -65,9 +52,6 @@ value-of-requires c κs = search needs
 set-event-requires : tie.Need-set-event-requires
 set-event-requires c κs = search needs
 
-changed-requires-5 : tie.Need-changed-requires-5
-changed-requires-5 c κs = search needs
-
 enum-told-6 : tie.Need-enum-told-6
 enum-told-6 c = search needs
 
@@ -77,69 +61,63 @@ value-of-requires-2 c κs = search needs
 clear-event-requires : tie.Need-clear-event-requires
 clear-event-requires c κs = search needs
 
-changed-requires-6 : tie.Need-changed-requires-6
-changed-requires-6 c κs = search needs
-
 enum-told-7 : tie.Need-enum-told-7
 enum-told-7 c = search needs
 
 response-requires : tie.Need-response-requires
 response-requires c κs = search needs
 
-changed-requires-7 : tie.Need-changed-requires-7
-changed-requires-7 c κs = search needs
-
 returns : tie.Need-returns
 unfolding deedCall
 returns c =
-    let e = c .before .before .before in
+    let e = c .before .before in
     let s = e .before .before .before in
     deed-as _ (s .args .applet) (now (s .args .bytes)) (e .enum-told .given .1)
-    (done-posts _ _ (is-admin _) (c .before .install .ensures ∙ ap (λ (q : Request). changedBy (step (view (s .args .card)) (admin (install (s .args .applet) q)))) (c .before .before .request .ensures)) (c .changed .ensures))
+    (c .install .ensures ∙ ap (λ (q : Request). replied (step (view (s .args .card)) (admin (install (s .args .applet) q)))) (c .before .request .ensures))
 
 returns-2 : tie.Need-returns-2
 unfolding deedCall
 returns-2 c =
-    let e = c .before .before in
+    let e = c .before in
     let s = e .before .before .before in
-    deed-as _ (s .args .applet) (now (s .args .bytes)) (e .enum-told2 .given .1) (done-posts _ _ (is-admin _) (c .before .delete .ensures) (c .changed2 .ensures))
+    deed-as _ (s .args .applet) (now (s .args .bytes)) (e .enum-told2 .given .1) (c .delete .ensures)
 
 returns-3 : tie.Need-returns-3
 unfolding deedCall
 returns-3 c =
-    let e = c .before .before in
+    let e = c .before in
     let s = e .before .before .before in
-    deed-as _ (s .args .applet) (now (s .args .bytes)) (e .enum-told3 .given .1) (done-posts _ _ (is-admin _) (c .before .lock .ensures) (c .changed3 .ensures))
+    deed-as _ (s .args .applet) (now (s .args .bytes)) (e .enum-told3 .given .1) (c .lock .ensures)
 
 returns-4 : tie.Need-returns-4
 unfolding deedCall
 returns-4 c =
-    let e = c .before .before in
+    let e = c .before in
     let s = e .before .before .before in
-    deed-as _ (s .args .applet) (now (s .args .bytes)) (e .enum-told4 .given .1) (done-posts _ _ (is-admin _) (c .before .unlock .ensures) (c .changed4 .ensures))
+    deed-as _ (s .args .applet) (now (s .args .bytes)) (e .enum-told4 .given .1) (c .unlock .ensures)
 
 returns-5 : tie.Need-returns-5
 unfolding deedCall
 returns-5 c =
-    let e = c .before .before .before in
+    let e = c .before .before in
     let s = e .before .before .before in
     deed-as _ (s .args .applet) (now (s .args .bytes)) (e .enum-told5 .given .1)
-    (done-posts _ _ (is-set _ _) (c .before .set-event .ensures ∙ ap (λ (v : ℤ). changedBy (step (view (s .args .card)) (event (setEvent (s .args .applet) v)))) (toZ-ofZ w16 _ (record { sfits = c .before .before .value-of .ok }) ∙ c .before .before .value-of .ensures)) (c .changed5 .ensures))
+    (c .set-event .ensures ∙ ap (λ (v : ℤ). replied (step (view (s .args .card)) (event (setEvent (s .args .applet) v)))) (toZ-ofZ w16 _ (record { sfits = c .before .value-of .ok }) ∙ c .before .value-of .ensures))
 
 returns-6 : tie.Need-returns-6
 unfolding deedCall
 returns-6 c =
-    let e = c .before .before .before in
+    let e = c .before .before in
     let s = e .before .before .before in
     deed-as _ (s .args .applet) (now (s .args .bytes)) (e .enum-told6 .given .1)
-    (done-posts _ _ (is-clear _ _) (c .before .clear-event .ensures ∙ ap (λ (v : ℤ). changedBy (step (view (s .args .card)) (event (clearEvent (s .args .applet) v)))) (toZ-ofZ w16 _ (record { sfits = c .before .before .value-of2 .ok }) ∙ c .before .before .value-of2 .ensures)) (c .changed6 .ensures))
+    (c .clear-event .ensures ∙ ap (λ (v : ℤ). replied (step (view (s .args .card)) (event (clearEvent (s .args .applet) v)))) (toZ-ofZ w16 _ (record { sfits = c .before .value-of2 .ok }) ∙ c .before .value-of2 .ensures))
 
 returns-7 : tie.Need-returns-7
 unfolding deedCall
 returns-7 c =
-    let e = c .before .before in
+    let e = c .before in
     let s = e .before .before .before in
-    deed-as _ (s .args .applet) (now (s .args .bytes)) (e .enum-told7 .given .1) (done-posts _ _ (is-proactive _) (c .before .response .ensures) (c .changed7 .ensures))
+    deed-as _ (s .args .applet) (now (s .args .bytes)) (e .enum-told7 .given .1) (c .response .ensures)
 
 pub do-deed-spec : {M : Type 1} → statement M
 do-deed-spec =
@@ -148,27 +126,20 @@ do-deed-spec =
     enum-told
     request-requires
     install-requires
-    changed-requires
     enum-told-2
     delete-requires
-    changed-requires-2
     enum-told-3
     lock-requires
-    changed-requires-3
     enum-told-4
     unlock-requires
-    changed-requires-4
     enum-told-5
     value-of-requires
     set-event-requires
-    changed-requires-5
     enum-told-6
     value-of-requires-2
     clear-event-requires
-    changed-requires-6
     enum-told-7
     response-requires
-    changed-requires-7
     returns
     returns-2
     returns-3

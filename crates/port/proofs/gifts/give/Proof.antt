@@ -2,10 +2,9 @@
 -- Assumes nothing.
 use mathlib.Core.Path.{refl, _∙_}
 use denote.Ref.{now}
-use Rattle.card.specs.Kinds.{is-new, is-allocate, is-command}
 use Rattle.asks.specs.Asks.{giftCall}
 use Rattle.port.specs.Posts.{lentAfter}
-use Rattle.port.proofs.PostLaws.{gift-as, gift-posts, new-as}
+use Rattle.port.proofs.PostLaws.{gift-as, new-as}
 use borrow.Author.Needs.{needs}
 use Rattle.port.proofs.gifts.give.Statement.{statement}
 use Rattle.port.proofs.gifts.give.Tie as tie
@@ -22,17 +21,11 @@ from-requires c κs = search needs
 new-entry-requires : tie.Need-new-entry-requires
 new-entry-requires c κs = search needs
 
-numbered-requires : tie.Need-numbered-requires
-numbered-requires c κs = search needs
-
 enum-told-2 : tie.Need-enum-told-2
 enum-told-2 c = search needs
 
 allocate-requires : tie.Need-allocate-requires
 allocate-requires c κs = search needs
-
-numbered-requires-2 : tie.Need-numbered-requires-2
-numbered-requires-2 c κs = search needs
 
 enum-told-3 : tie.Need-enum-told-3
 enum-told-3 c = search needs
@@ -40,23 +33,20 @@ enum-told-3 c = search needs
 system-command-requires : tie.Need-system-command-requires
 system-command-requires c κs = search needs
 
-numbered-requires-3 : tie.Need-numbered-requires-3
-numbered-requires-3 c κs = search needs
-
 returns : tie.Need-returns
 unfolding giftCall lentAfter
 returns c =
-    let e = c .before .before .before .before in
+    let e = c .before .before .before in
     let s = e .before .before .before .before in
     gift-as _ (s .args .applet) (now (s .args .bytes)) (now (s .args .out)) _ _ (e .enum-told .given .1)
-    (gift-posts _ _ (is-new _ _ _) (c .before .new-entry .ensures) (c .numbered .ensures) ∙ new-as _ _ (c .before .before .before .byte-at .ensures) (c .before .before .from .ensures), refl)
+    (c .new-entry .ensures ∙ new-as _ _ (c .before .before .byte-at .ensures) (c .before .from .ensures), refl)
 
 returns-2 : tie.Need-returns-2
 unfolding giftCall lentAfter
 returns-2 c =
-    let e = c .before .before in
+    let e = c .before in
     let s = e .before .before .before .before in
-    gift-as _ (s .args .applet) (now (s .args .bytes)) (now (s .args .out)) _ _ (e .enum-told2 .given .1) (gift-posts _ _ (is-allocate _) (c .before .allocate .ensures) (c .numbered2 .ensures), refl)
+    gift-as _ (s .args .applet) (now (s .args .bytes)) (now (s .args .out)) _ _ (e .enum-told2 .given .1) (c .allocate .ensures, refl)
 
 same-length : tie.Need-same-length
 same-length c = search needs
@@ -64,11 +54,10 @@ same-length c = search needs
 returns-3 : tie.Need-returns-3
 unfolding giftCall lentAfter
 returns-3 c =
-    let p = c .before .before .before in
+    let p = c .before .before in
     let e = p .before .before in
     let s = e .before .before .before .before in
-    gift-as _ (s .args .applet) (now (s .args .bytes)) (now (s .args .out)) _ _ (e .enum-told3 .given .1)
-    (gift-posts _ _ (is-command _) (p .system-command .ensures .0) (c .numbered3 .ensures), p .system-command .ensures .1)
+    gift-as _ (s .args .applet) (now (s .args .bytes)) (now (s .args .out)) _ _ (e .enum-told3 .given .1) (p .system-command .ensures)
 
 pub give-spec : {M : Type 1} → statement M
 give-spec =
@@ -78,13 +67,10 @@ give-spec =
     byte-at-requires
     from-requires
     new-entry-requires
-    numbered-requires
     enum-told-2
     allocate-requires
-    numbered-requires-2
     enum-told-3
     system-command-requires
-    numbered-requires-3
     returns
     returns-2
     same-length

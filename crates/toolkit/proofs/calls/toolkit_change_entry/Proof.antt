@@ -4,20 +4,19 @@ use mathlib.Core.Path.{refl}
 use mathlib.Core.List.{[], _∷_}
 use denote.Ref.{now}
 use Rattle.rules.specs.Calls.{entry, changeEntry}
-use Rattle.card.specs.Kinds.{is-change}
 use Rattle.card.proofs.Card.change_entry.Symbol as g
 use Rattle.card.proofs.Card.change_entry.Met as g-thm
 use Rattle.lent.proofs.Pars.{byte}
 use Rattle.lent.proofs.Walk.{LentCall, opened}
 use Rattle.toolkit.proofs.Params.{mark, bytes}
-use Rattle.toolkit.proofs.Doors.{door, does, by-of-done}
+use Rattle.toolkit.proofs.Doors.{door}
 use Rattle.toolkit.proofs.calls.toolkit_change_entry.Key.{name as #f}
 use Rattle.toolkit.proofs.calls.toolkit_change_entry.Statement as stated
 use Rattle.toolkit.proofs.calls.toolkit_change_entry.Code as code
 
 abbrev at-card : LentCall
-at-card = door does 1 (byte ∷ byte ∷ mark ∷ bytes ∷ []) g.name (λ x. entry (changeEntry (x .0) (x .1 .0) (x .1 .1 .0) (now (x .1 .1 .1 .0)))) (λ x. is-change _ _ _ _) (λ x. tt)
+at-card = door 1 (byte ∷ byte ∷ mark ∷ bytes ∷ []) g.name (λ x. entry (changeEntry (x .0) (x .1 .0) (x .1 .1 .0) (now (x .1 .1 .1 .0)))) (λ x f. refl)
 
 pub toolkit-change-entry-spec : {M : Type 1} → stated.statement M
 unfolding code.routine
-toolkit-change-entry-spec 𝓤 H 𝓜 𝓖 𝓡 = opened at-card 𝓤 H 𝓜 𝓖 𝓡 code.env #f (code.unfolded 𝓤 H 𝓜 𝓡) g.routine refl (g-thm.met 𝓤 H 𝓜 𝓖 𝓡) (by-of-done 𝓤 H 𝓜 𝓖 𝓡 code.env refl)
+toolkit-change-entry-spec 𝓤 H 𝓜 𝓖 𝓡 = opened at-card 𝓤 H 𝓜 𝓖 𝓡 code.env #f (code.unfolded 𝓤 H 𝓜 𝓡) g.routine refl (g-thm.met 𝓤 H 𝓜 𝓖 𝓡)

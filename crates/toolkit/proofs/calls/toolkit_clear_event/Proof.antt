@@ -3,20 +3,19 @@
 use mathlib.Core.Path.{refl}
 use mathlib.Core.List.{[], _∷_}
 use Rattle.rules.specs.Calls.{event, clearEvent}
-use Rattle.card.specs.Kinds.{is-clear}
 use Rattle.card.proofs.Card.clear_event.Symbol as g
 use Rattle.card.proofs.Card.clear_event.Met as g-thm
 use Rattle.lent.proofs.Pars.{byte}
 use Rattle.lent.proofs.Walk.{LentCall, opened}
 use Rattle.toolkit.proofs.Params.{value}
-use Rattle.toolkit.proofs.Doors.{door, does, by-of-done}
+use Rattle.toolkit.proofs.Doors.{door}
 use Rattle.toolkit.proofs.calls.toolkit_clear_event.Key.{name as #f}
 use Rattle.toolkit.proofs.calls.toolkit_clear_event.Statement as stated
 use Rattle.toolkit.proofs.calls.toolkit_clear_event.Code as code
 
 abbrev at-card : LentCall
-at-card = door does 0 (byte ∷ value ∷ []) g.name (λ x. event (clearEvent (x .0) (x .1 .0))) (λ x. is-clear _ _) (λ x. tt)
+at-card = door 0 (byte ∷ value ∷ []) g.name (λ x. event (clearEvent (x .0) (x .1 .0))) (λ x f. refl)
 
 pub toolkit-clear-event-spec : {M : Type 1} → stated.statement M
 unfolding code.routine
-toolkit-clear-event-spec 𝓤 H 𝓜 𝓖 𝓡 = opened at-card 𝓤 H 𝓜 𝓖 𝓡 code.env #f (code.unfolded 𝓤 H 𝓜 𝓡) g.routine refl (g-thm.met 𝓤 H 𝓜 𝓖 𝓡) (by-of-done 𝓤 H 𝓜 𝓖 𝓡 code.env refl)
+toolkit-clear-event-spec 𝓤 H 𝓜 𝓖 𝓡 = opened at-card 𝓤 H 𝓜 𝓖 𝓡 code.env #f (code.unfolded 𝓤 H 𝓜 𝓡) g.routine refl (g-thm.met 𝓤 H 𝓜 𝓖 𝓡)

@@ -4,19 +4,18 @@ use mathlib.Core.Path.{refl}
 use mathlib.Core.List.{[], _∷_}
 use denote.Ref.{now}
 use Rattle.rules.specs.Calls.{arrival, profile}
-use Rattle.card.specs.Kinds.{is-arrival}
 use Rattle.card.proofs.Card.profile.Symbol as g
 use Rattle.card.proofs.Card.profile.Met as g-thm
 use Rattle.lent.proofs.Walk.{LentCall, opened}
 use Rattle.toolkit.proofs.Params.{bytes}
-use Rattle.toolkit.proofs.Doors.{door, names, by-of-called}
+use Rattle.toolkit.proofs.Doors.{door}
 use Rattle.toolkit.proofs.calls.toolkit_profile.Key.{name as #f}
 use Rattle.toolkit.proofs.calls.toolkit_profile.Statement as stated
 use Rattle.toolkit.proofs.calls.toolkit_profile.Code as code
 
 abbrev at-card : LentCall
-at-card = door names 1 (bytes ∷ []) g.name (λ x. arrival (profile (now (x .0)))) (λ x. is-arrival _) (λ x. tt)
+at-card = door 1 (bytes ∷ []) g.name (λ x. arrival (profile (now (x .0)))) (λ x f. refl)
 
 pub toolkit-profile-spec : {M : Type 1} → stated.statement M
 unfolding code.routine
-toolkit-profile-spec 𝓤 H 𝓜 𝓖 𝓡 = opened at-card 𝓤 H 𝓜 𝓖 𝓡 code.env #f (code.unfolded 𝓤 H 𝓜 𝓡) g.routine refl (g-thm.met 𝓤 H 𝓜 𝓖 𝓡) (by-of-called 𝓤 H 𝓜 𝓖 𝓡 code.env refl)
+toolkit-profile-spec 𝓤 H 𝓜 𝓖 𝓡 = opened at-card 𝓤 H 𝓜 𝓖 𝓡 code.env #f (code.unfolded 𝓤 H 𝓜 𝓡) g.routine refl (g-thm.met 𝓤 H 𝓜 𝓖 𝓡)

@@ -3,18 +3,17 @@
 use mathlib.Core.Path.{refl}
 use mathlib.Core.List.{[]}
 use Rattle.rules.specs.Calls.{proactive, response}
-use Rattle.card.specs.Kinds.{is-proactive}
 use Rattle.card.proofs.Card.response.Symbol as g
 use Rattle.card.proofs.Card.response.Met as g-thm
 use Rattle.lent.proofs.Walk.{LentCall, opened}
-use Rattle.toolkit.proofs.Doors.{door, does, by-of-done}
+use Rattle.toolkit.proofs.Doors.{door}
 use Rattle.toolkit.proofs.calls.toolkit_response.Key.{name as #f}
 use Rattle.toolkit.proofs.calls.toolkit_response.Statement as stated
 use Rattle.toolkit.proofs.calls.toolkit_response.Code as code
 
 abbrev at-card : LentCall
-at-card = door does 0 ([]) g.name (λ x. proactive response) (λ x. is-proactive _) (λ x. tt)
+at-card = door 0 ([]) g.name (λ x. proactive response) (λ x f. refl)
 
 pub toolkit-response-spec : {M : Type 1} → stated.statement M
 unfolding code.routine
-toolkit-response-spec 𝓤 H 𝓜 𝓖 𝓡 = opened at-card 𝓤 H 𝓜 𝓖 𝓡 code.env #f (code.unfolded 𝓤 H 𝓜 𝓡) g.routine refl (g-thm.met 𝓤 H 𝓜 𝓖 𝓡) (by-of-done 𝓤 H 𝓜 𝓖 𝓡 code.env refl)
+toolkit-response-spec 𝓤 H 𝓜 𝓖 𝓡 = opened at-card 𝓤 H 𝓜 𝓖 𝓡 code.env #f (code.unfolded 𝓤 H 𝓜 𝓡) g.routine refl (g-thm.met 𝓤 H 𝓜 𝓖 𝓡)

@@ -4,20 +4,19 @@ use mathlib.Core.Path.{refl}
 use mathlib.Core.List.{[], _∷_}
 use denote.Ref.{now}
 use Rattle.rules.specs.Calls.{proactive, send}
-use Rattle.card.specs.Kinds.{is-proactive}
 use Rattle.card.proofs.Card.send.Symbol as g
 use Rattle.card.proofs.Card.send.Met as g-thm
 use Rattle.lent.proofs.Pars.{byte}
 use Rattle.lent.proofs.Walk.{LentCall, opened}
 use Rattle.toolkit.proofs.Params.{bytes}
-use Rattle.toolkit.proofs.Doors.{door, does, by-of-done}
+use Rattle.toolkit.proofs.Doors.{door}
 use Rattle.toolkit.proofs.calls.toolkit_send.Key.{name as #f}
 use Rattle.toolkit.proofs.calls.toolkit_send.Statement as stated
 use Rattle.toolkit.proofs.calls.toolkit_send.Code as code
 
 abbrev at-card : LentCall
-at-card = door does 1 (byte ∷ bytes ∷ []) g.name (λ x. proactive (send (x .0) (now (x .1 .0)))) (λ x. is-proactive _) (λ x. tt)
+at-card = door 1 (byte ∷ bytes ∷ []) g.name (λ x. proactive (send (x .0) (now (x .1 .0)))) (λ x f. refl)
 
 pub toolkit-send-spec : {M : Type 1} → stated.statement M
 unfolding code.routine
-toolkit-send-spec 𝓤 H 𝓜 𝓖 𝓡 = opened at-card 𝓤 H 𝓜 𝓖 𝓡 code.env #f (code.unfolded 𝓤 H 𝓜 𝓡) g.routine refl (g-thm.met 𝓤 H 𝓜 𝓖 𝓡) (by-of-done 𝓤 H 𝓜 𝓖 𝓡 code.env refl)
+toolkit-send-spec 𝓤 H 𝓜 𝓖 𝓡 = opened at-card 𝓤 H 𝓜 𝓖 𝓡 code.env #f (code.unfolded 𝓤 H 𝓜 𝓡) g.routine refl (g-thm.met 𝓤 H 𝓜 𝓖 𝓡)

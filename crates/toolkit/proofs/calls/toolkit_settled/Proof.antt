@@ -3,18 +3,17 @@
 use mathlib.Core.Path.{refl}
 use mathlib.Core.List.{[]}
 use Rattle.rules.specs.Calls.{settled}
-use Rattle.card.specs.Kinds.{is-settled}
 use Rattle.card.proofs.Card.settled.Symbol as g
 use Rattle.card.proofs.Card.settled.Met as g-thm
 use Rattle.lent.proofs.Walk.{LentCall, opened}
-use Rattle.toolkit.proofs.Doors.{door, names, by-of-called}
+use Rattle.toolkit.proofs.Doors.{door}
 use Rattle.toolkit.proofs.calls.toolkit_settled.Key.{name as #f}
 use Rattle.toolkit.proofs.calls.toolkit_settled.Statement as stated
 use Rattle.toolkit.proofs.calls.toolkit_settled.Code as code
 
 abbrev at-card : LentCall
-at-card = door names 0 ([]) g.name (λ x. settled) (λ x. is-settled) (λ x. tt)
+at-card = door 0 ([]) g.name (λ x. settled) (λ x f. refl)
 
 pub toolkit-settled-spec : {M : Type 1} → stated.statement M
 unfolding code.routine
-toolkit-settled-spec 𝓤 H 𝓜 𝓖 𝓡 = opened at-card 𝓤 H 𝓜 𝓖 𝓡 code.env #f (code.unfolded 𝓤 H 𝓜 𝓡) g.routine refl (g-thm.met 𝓤 H 𝓜 𝓖 𝓡) (by-of-called 𝓤 H 𝓜 𝓖 𝓡 code.env refl)
+toolkit-settled-spec 𝓤 H 𝓜 𝓖 𝓡 = opened at-card 𝓤 H 𝓜 𝓖 𝓡 code.env #f (code.unfolded 𝓤 H 𝓜 𝓡) g.routine refl (g-thm.met 𝓤 H 𝓜 𝓖 𝓡)

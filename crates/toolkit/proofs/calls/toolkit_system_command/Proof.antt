@@ -38,28 +38,25 @@ use denote.Triple.Entry.{onEntry}
 use denote.Triple.Spec.{Meets, tripleOf}
 use denote.Triple.Walked.{says, needs, Stays, stay-ref, gave-slice, walkOf, AllGo, goes-ref, goes-gave-slice, Walks, ends-at, walked, walk-meets}
 use denote.Triple.Clauses.{ensured, lasts}
-use Rattle.rules.specs.Calls.{Outcome, systemCommand}
-use Rattle.rules.specs.Step.{step}
-use Rattle.card.specs.View.{view, Left}
-use Rattle.card.specs.Reply.{numberedBy}
+use Rattle.rules.specs.declared.Answer.{Answer}
+use Rattle.rules.specs.Calls.{systemCommand}
+use Rattle.card.specs.View.{Left}
+use Rattle.card.specs.Replies.{Replies, Fills}
 use Rattle.card.specs.declared.Card.{Card}
-use Rattle.card.specs.declared.Numbered.{Numbered}
-use Rattle.paper.specs.declared.Answer.{Answer}
-use Rattle.card.specs.Kinds.{is-command}
+use Rattle.card.specs.declared.Reply.{Reply}
 use Rattle.card.proofs.Card as B
 use Rattle.card.proofs.Card.Laws as B′
-use Rattle.card.proofs.Numbered as R
-use Rattle.card.proofs.Numbered.Laws as R′
-use Rattle.paper.proofs.Answer as G
+use Rattle.card.proofs.Reply as R
+use Rattle.card.proofs.Reply.Laws as R′
+use Rattle.rules.proofs.Answer as G
 use Rattle.card.proofs.Card.system_command as g
 use Rattle.card.proofs.Card.system_command.Symbol as g-def
 use Rattle.card.proofs.Card.system_command.Symbol.{name as #g}
 use Rattle.card.proofs.Card.system_command.Met as g-thm
 use Rattle.toolkit.specs.Does.{Does}
-use Rattle.lent.proofs.Results.{valsOf, stores, stands, Known, finishes}
-use Rattle.lent.proofs.Walk.{known-writer}
-use Rattle.toolkit.proofs.Answers.{card, numbered}
-use Rattle.toolkit.proofs.Doors.{gives, ending, sort-does, by-of-given}
+use Rattle.lent.proofs.Results.{valOf, valsOf, stores, stands, answers-back}
+use Rattle.toolkit.proofs.Lent.{card, answer, card-replies}
+use Rattle.toolkit.proofs.Doors.{as-done}
 use Rattle.toolkit.proofs.calls.toolkit_system_command.Key.{name as #f}
 use Rattle.toolkit.proofs.calls.toolkit_system_command as f
 use Rattle.toolkit.proofs.calls.toolkit_system_command.Statement as stated
@@ -75,15 +72,12 @@ stayed = (stay-ref (0 ∷ []) tt (plain (λ _. B.the-row)), (gave-slice (1 ∷ [
 abbrev Callee : {M : Type 1} (𝓤 : URA M) (H : Heap 𝓤) (A : Atoms 𝓤) (at-mem : Memory → SProp 𝓤) (run : Routine → Fun 𝓤) → Contract 𝓤
 Callee 𝓤 H A at-mem run = tripleOf 𝓤 H A g.signature (g.spec 𝓤 H A at-mem run)
 
--- what the rules give; what the method says, and what the door
-abbrev due : Card → List ℕ → Outcome
-due h y = step (view h) (systemCommand y)
-
-abbrev Said : Card → List ℕ → Numbered → List ℕ → Type 0
-Said h y r zs = (r ≡ numberedBy (due h y)) × (zs ≡ due h y .buffer)
+-- what the method says, and what the door
+abbrev Said : Card → List ℕ → Reply → List ℕ → Type 0
+Said h y r zs = Replies h (systemCommand y) r × Fills h (systemCommand y) zs
 
 abbrev Promise : Card → List ℕ → Answer → Card → List ℕ → Type 0
-Promise h y w c zs = Does (due h y) c w zs
+Promise h y w c zs = Does h (systemCommand y) c w zs
 
 module _ {M : Type 1} (𝓤 : URA M) (H : Heap 𝓤) (A : Atoms 𝓤) (W : Given 𝓤 H A) (at-mem : Memory → SProp 𝓤) (run : Routine → Fun 𝓤) (κ κ₁ : Lft) (q q₁ : Share) (b o : ℕ) (γ : GName) (h : Card) (y : Bytes) where
   abbrev x : RefT Card × (Bytes × Unit {0})
@@ -121,7 +115,7 @@ module _ {M : Type 1} (𝓤 : URA M) (H : Heap 𝓤) (A : Atoms 𝓤) (W : Given
   goes-callee sound was =
       qed W (Tokens ∷ ‵ Out ∷ []) ∵ says ! sound $ frame ! $ nothing ! $ move ! (1 ∷ 0 ∷ []) $ fjoin ! $ owned ! B.the-row (Is B.the-row) (LL.makes B.the-type B′.the-plain 𝓤 H A) h _ was $ fjoin ! $ done !
 
-  module _ (C : Calls 𝓤 H) (Λ : Loops 𝓤 H) (fm : FmC 𝓤 H (W .laws) C) (known : Triple 𝓤 (C #g) (Callee 𝓤 H A at-mem run)) (known-writer : Known 𝓤 H A (ending gives) C) where
+  module _ (C : Calls 𝓤 H) (Λ : Loops 𝓤 H) (fm : FmC 𝓤 H (W .laws) C) (known : Triple 𝓤 (C #g) (Callee 𝓤 H A at-mem run)) where
     walk : Left h → Is (MutSlice (named 1) κ₁ u8) y (yv ∷ [])
         → ent 𝓤 (onEntry 𝓤 H A f.signature (κ, (κ₁, tt)) (q, (q₁, tt)) x at) (WpFn 𝓤 H C Λ code.function (vptr b o ∷ yv ∷ []) Post)
     walk sound is-out =
@@ -140,42 +134,41 @@ module _ {M : Type 1} (𝓤 : URA M) (H : Heap 𝓤) (A : Atoms 𝓤) (W : Given
         move ! (21 ∷ 19 ∷ []) $ use2 W (raw (Callee 𝓤 H A at-mem run .pre to-callee)) (goes-callee sound was) $
         -- [0 what the callee asks; 1 the card's cell; 2 what a Card owns; 3 the open borrow; 4 obs; 5 auth; 6 _6; 8 _5; 10 _4; 12 _3; 14 _2; 16 _1; 18 _0; 20 true]
         calls-at ! fm (Callee 𝓤 H A at-mem run) known to-callee (and-then ! (load ! (from ! (stop !)) (look ! 12 refl)) (and-then ! (load ! (from ! (stop !)) (look ! 6 refl)) (no-more !))) (λ v.
-        use1 W (later (some (λ (r : Numbered). (Tokens ⊛ ‵ (R.the-row .own r (v ∷ []))) ⊛ raw (ensured 𝓤 H A g.ended (g.clauses 𝓤 H A at-mem run) (κ₁, tt) (h, (y, tt)) tt r)))) (id⊢ 𝓤 _) $ await ! tt $ pick ! (λ r.
+        use1 W (later (some (λ (r : Reply). (Tokens ⊛ ‵ (R.the-row .own r (v ∷ []))) ⊛ raw (ensured 𝓤 H A g.ended (g.clauses 𝓤 H A at-mem run) (κ₁, tt) (h, (y, tt)) tt r)))) (id⊢ 𝓤 _) $ await ! tt $ pick ! (λ r.
         -- what the callee ensures, at some last list
         split ! $ move ! (1 ∷ []) $
         use1 W (some (λ (ws : Unit {0} × (List ℕ × Unit {0})). ‵ (lasts g.ended (κ₁, tt) (h, (y, tt)) ws) ⊛ raw (fact 𝓤 (Said h (y .now) r (ws .1 .0))))) (id⊢ 𝓤 _) $ pick ! (λ ws.
         split ! $ move ! (1 ∷ []) $ heard ! (Said h (y .now) r (ws .1 .0)) (λ e. fsplit ! $ drop ! $ fsplit ! $ fsplit ! $ move ! (1 ∷ []) $ feqL ! (λ len.
         move ! (2 ∷ []) $ split ! $ move ! (1 ∷ []) $ peeks ! R.the-row (Is R.the-row) (shows 𝓤 H A R.the-row) r (v ∷ []) (λ is.
         -- [0 what the result owns; 1 the token; 2 the last list; 3 true; 4 the card's cell; 5 what a Card owns; 6 the open borrow; 7 obs; 8 auth; 9 _6; 11 _5; 13 _4; 15 _3; 17 _2; 19 _1; 21 _0; 23 true]
-        land ! (from ! (stop !)) (init ! 13 refl (numbered .result-typed 𝓤 H A W r v is)) $
-        rewrite ! 13 (λ (u : Val). ‵ (fat fullShare R′.mir l₄ 0 u)) (numbered .spelled r v is) refl $
+        land ! (from ! (stop !)) (init ! 13 refl (card-replies .result-typed 𝓤 H A W r v is)) $
+        rewrite ! 13 (λ (u : Val). ‵ (fat fullShare R′.mir l₄ 0 u)) (card-replies .spelled r v is) refl $
         move ! (0 ∷ 1 ∷ 2 ∷ 4 ∷ 5 ∷ 6 ∷ 7 ∷ 8 ∷ 13 ∷ 14 ∷ 15 ∷ 16 ∷ 19 ∷ 20 ∷ 21 ∷ 22 ∷ []) $
         -- [0 what the result owns; 1 the token; 2 the last list; 3 the card's cell; 4 what a Card owns; 5 the open borrow; 6 obs; 7 auth; 8 _4; 10 _3; 12 _1; 14 _0; 16 true; 17 _6; 19 _5; 21 _2; 23 true]
-        stands numbered 𝓤 H A W C Λ {Same = ⊥} stores ! 4 l₄ l₁ b o h r v is refl (λ n. absurd n) $
-        finishes 𝓤 H A W C Λ fm (ending gives) known-writer ! 4 l₄ l₀ r v is refl (λ w u p.
-        owned ! B.the-row (Is B.the-row) (LL.makes B.the-type B′.the-plain 𝓤 H A) (r .card) _ (numbered .has-it r v is) $ move ! (5 ∷ 0 ∷ 7 ∷ 8 ∷ 9 ∷ []) $
+        stands card-replies 𝓤 H A W C Λ {Same = ⊥} stores ! 4 l₄ l₁ b o h r v is refl (λ n. absurd n) $
+        answers-back card-replies 𝓤 H A W C Λ ! 4 l₄ l₀ r v is refl (
+        owned ! B.the-row (Is B.the-row) (LL.makes B.the-type B′.the-plain 𝓤 H A) (r .card) _ (card-replies .has-it r v is) $ move ! (5 ∷ 0 ∷ 7 ∷ 8 ∷ 9 ∷ []) $
         closes ! tt B.the-row (r .card) ((valsOf card) (r .card)) b o $
         -- [0 obs; 1 the borrow; 2 the token; 3 what the answer owns; 4 what the result owns; 5 the other token; 6 the last list; 7 what a Card owns; 8 _4; 10 _3; 12 _1; 14 _0; 16 true; 17 _6; 19 _5; 21 _2; 23 true]
         returns ! (look ! 14 refl) $ forget ! 8 refl $ forget ! 10 refl $ forget ! 12 refl $ forget ! 14 refl $ forget ! 17 refl $ forget ! 19 refl $ forget ! 21 refl $
         move ! (14 ∷ 15 ∷ []) $ free1 ! $ move ! (12 ∷ 13 ∷ []) $ free1 ! $ move ! (17 ∷ 18 ∷ []) $ free1 ! $ move ! (10 ∷ 11 ∷ []) $ free1 ! $ move ! (8 ∷ 9 ∷ []) $ free1 ! $ move ! (11 ∷ 12 ∷ []) $ free1 ! $ move ! (9 ∷ 10 ∷ []) $ free1 ! $ free0 ! $
-        keep ! (0 ∷ 1 ∷ 2 ∷ 3 ∷ 5 ∷ 6 ∷ []) $ by ! (exits (r .card) w u (ws .1 .0) len (sort-does gives h sound (is-command (y .now)) r w (e .0) p (e .1)))))))))))))))))))
+        keep ! (0 ∷ 1 ∷ 2 ∷ 3 ∷ 5 ∷ 6 ∷ []) $ by ! (exits (r .card) (r .answer) (valOf answer (r .answer)) (ws .1 .0) len (as-done h sound (systemCommand (y .now)) (e .0) (e .1)))))))))))))))))))
 
 module _ {M : Type 1} (𝓤 : URA M) (H : Heap 𝓤) (A : Atoms 𝓤) (W : Given 𝓤 H A) (at-mem : Memory → SProp 𝓤) (run : Routine → Fun 𝓤) where
-  walks : (C : Calls 𝓤 H) (Λ : Loops 𝓤 H) → FmC 𝓤 H (W .laws) C → Triple 𝓤 (C #g) (Callee 𝓤 H A at-mem run) → Known 𝓤 H A (ending gives) C → Walks 𝓤 H A f.ended stayed (WpFn 𝓤 H C Λ code.function) (f.clauses 𝓤 H A at-mem run)
-  walks C Λ fm known known-writer = walked 𝓤 H A f.ended stayed (f.clauses 𝓤 H A at-mem run) (WpFn 𝓤 H C Λ code.function) (λ κs. (ptr-vals, (slice-vals, tt)))
+  walks : (C : Calls 𝓤 H) (Λ : Loops 𝓤 H) → FmC 𝓤 H (W .laws) C → Triple 𝓤 (C #g) (Callee 𝓤 H A at-mem run) → Walks 𝓤 H A f.ended stayed (WpFn 𝓤 H C Λ code.function) (f.clauses 𝓤 H A at-mem run)
+  walks C Λ fm known = walked 𝓤 H A f.ended stayed (f.clauses 𝓤 H A at-mem run) (WpFn 𝓤 H C Λ code.function) (λ κs. (ptr-vals, (slice-vals, tt)))
       (λ κs. (mut-tells (named 0) (κs .0) B.the-row, (mut-slice-tells (named 1) (κs .1 .0) u8, tt)))
-      (λ κs qs bounds a _ are. needs 𝓤 (Left (a .0 .now)) _ (λ sound. walk 𝓤 H A W at-mem run (κs .0) (κs .1 .0) (qs .0) (qs .1 .0) (a .0 .ptr .0) (a .0 .ptr .1) (a .0 .name) (a .0 .now) (a .1 .0) C Λ fm known known-writer sound (are .1 .0)))
+      (λ κs qs bounds a _ are. needs 𝓤 (Left (a .0 .now)) _ (λ sound. walk 𝓤 H A W at-mem run (κs .0) (κs .1 .0) (qs .0) (qs .1 .0) (a .0 .ptr .0) (a .0 .ptr .1) (a .0 .name) (a .0 .now) (a .1 .0) C Λ fm known sound (are .1 .0)))
 
   goes : AllGo 𝓤 H A W 2 (f.signature .params) (f.ended .kept) stayed
   goes = (goes-ref 𝓤 H A W 2 0 tt (plain (λ _. B.the-row)), (goes-gave-slice 𝓤 H A W 2 1 tt (plain (λ _. u8)), tt))
 
-  meets : (𝓣 : Tables 𝓤 H) → Triple 𝓤 (𝓣 .C #g) (Callee 𝓤 H A at-mem run) → Known 𝓤 H A (ending gives) (𝓣 .C) → Meets 𝓤 H A f.signature (WpFn 𝓤 H (𝓣 .C) (𝓣 .Λ) code.function) (f.spec 𝓤 H A at-mem run)
-  meets 𝓣 known known-writer = walk-meets 𝓤 H A f.ended stayed W goes (f.clauses 𝓤 H A at-mem run) (WpFn 𝓤 H (𝓣 .C) (𝓣 .Λ) code.function) (WpFn-mono 𝓤 H (W .laws) 𝓣 code.function) (walks (𝓣 .C) (𝓣 .Λ) (fmOf 𝓤 H (W .laws) 𝓣) known known-writer)
+  meets : (𝓣 : Tables 𝓤 H) → Triple 𝓤 (𝓣 .C #g) (Callee 𝓤 H A at-mem run) → Meets 𝓤 H A f.signature (WpFn 𝓤 H (𝓣 .C) (𝓣 .Λ) code.function) (f.spec 𝓤 H A at-mem run)
+  meets 𝓣 known = walk-meets 𝓤 H A f.ended stayed W goes (f.clauses 𝓤 H A at-mem run) (WpFn 𝓤 H (𝓣 .C) (𝓣 .Λ) code.function) (WpFn-mono 𝓤 H (W .laws) 𝓣 code.function) (walks (𝓣 .C) (𝓣 .Λ) (fmOf 𝓤 H (W .laws) 𝓣) known)
 
 pub toolkit-system-command-spec : {M : Type 1} → stated.statement M
 unfolding code.routine
 toolkit-system-command-spec 𝓤 H 𝓜 𝓖 𝓡 =
     any-entry 𝓤 H 𝓜 𝓖 𝓡 code.env (tripleOf 𝓤 H (𝓖 .A) f.signature (f.spec 𝓤 H (𝓖 .A) (𝓜 .mem) (𝓡 .run))) #f code.function (code.unfolded 𝓤 H 𝓜 𝓡)
     (meets 𝓤 H (𝓖 .A) (givenOf 𝓤 H 𝓜 𝓖) (𝓜 .mem) (𝓡 .run) (Over 𝓤 H 𝓜 𝓖 𝓡 code.env)
-    (known-at 𝓤 H 𝓜 𝓖 𝓡 code.env (Callee 𝓤 H (𝓖 .A) (𝓜 .mem) (𝓡 .run)) #g g-def.routine refl (g-thm.met 𝓤 H 𝓜 𝓖 𝓡))
-    (known-writer 𝓤 H 𝓜 𝓖 𝓡 code.env (ending gives) (by-of-given 𝓤 H 𝓜 𝓖 𝓡 code.env refl)))
+    (known-at 𝓤 H 𝓜 𝓖 𝓡 code.env (Callee 𝓤 H (𝓖 .A) (𝓜 .mem) (𝓡 .run)) #g g-def.routine refl (g-thm.met 𝓤 H 𝓜 𝓖 𝓡)))

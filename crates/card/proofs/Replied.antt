@@ -8,48 +8,30 @@ use mathlib.Core.List.{List}
 use borrow.Author.Tests.{ne-eqb}
 use Rattle.lists.specs.Tests.{if_then_else_, _==_}
 use Rattle.lists.specs.Tables.{table}
-use Rattle.rules.specs.declared.Done.{Done}
-use Rattle.rules.specs.declared.Given.{Given}
-use Rattle.rules.specs.declared.Told.{Told}
-use Rattle.rules.specs.declared.Called.{Called}
+use Rattle.rules.specs.declared.Answer.{Answer}
 use Rattle.rules.specs.declared.Rows.{Rows}
 use Rattle.rules.specs.declared.Bank.{Bank}
 use Rattle.rules.specs.declared.Desk as held-desk
 use Rattle.rules.specs.Holds.{Tables, Desk, Model}
-use Rattle.rules.specs.Held.{storedRows, storedDesk}
-use Rattle.rules.specs.Calls.{Call, Outcome, only}
+use Rattle.rules.specs.Held.{storedRows, storedDesk, storedAnswer}
+use Rattle.rules.specs.Calls.{Call, Outcome, accepted, refusedWith}
 use Rattle.rules.specs.Refusals.{refusal}
 use Rattle.rules.specs.Desk.{marked, menuChanges, eventsChange}
 use Rattle.rules.specs.Step.{changed, tablesAfter, deskAfter, answer, outcome, step}
 use Rattle.rules.proofs.DueMarks.{marked-same}
 use Rattle.card.specs.declared.Card.{Card}
 use Rattle.rules.specs.declared.Roll.{Roll}
-use Rattle.card.specs.declared.Changed.{Changed}
-use Rattle.card.specs.declared.Numbered.{Numbered}
-use Rattle.card.specs.declared.Asked.{Asked}
-use Rattle.card.specs.declared.Arrived.{Arrived}
+use Rattle.card.specs.declared.Reply.{Reply}
 use Rattle.applets.specs.ByNumber.{rollOf, selectableSet, registeredSet, madeTable}
 use Rattle.card.specs.View.{view, stored, Left}
-use Rattle.card.specs.Reply.{changedBy, numberedBy, askedBy, arrivedBy, doneOf, givenOf, toldOf, calledOf}
+use Rattle.card.specs.Replies.{replied}
 use Rattle.card.proofs.Left.{left-form}
 use Rattle.card.proofs.Marks.{withDue, due-desk}
 
 -- the reply by its parts
-pub gives : (o : Outcome) {k : Card} {a : Given} → k ≡ stored (o .after) → a ≡ givenOf (o .answer) → _≡_ {A = Numbered} (record { card = k; answer = a }) (numberedBy o)
-unfolding numberedBy
-gives o p q = rw (p, q) refl
-
-pub changes : (o : Outcome) {k : Card} {a : Done} → k ≡ stored (o .after) → a ≡ doneOf (o .answer) → _≡_ {A = Changed} (record { card = k; answer = a }) (changedBy o)
-unfolding changedBy
-changes o p q = rw (p, q) refl
-
-pub asks : (o : Outcome) {k : Card} {a : Told} → k ≡ stored (o .after) → a ≡ toldOf (o .answer) → _≡_ {A = Asked} (record { card = k; answer = a }) (askedBy o)
-unfolding askedBy
-asks o p q = rw (p, q) refl
-
-pub arrives : (o : Outcome) {k : Card} {a : Called} → k ≡ stored (o .after) → a ≡ calledOf (o .answer) → _≡_ {A = Arrived} (record { card = k; answer = a }) (arrivedBy o)
-unfolding arrivedBy
-arrives o p q = rw (p, q) refl
+pub replies : (o : Outcome) {k : Card} {a : Answer} → k ≡ stored (o .after) → a ≡ storedAnswer (o .answer) → _≡_ {A = Reply} (record { card = k; answer = a }) (replied o)
+unfolding replied
+replies o p q = rw (p, q) refl
 
 -- the tables that a call leaves, by its refusal
 abbrev pub tablesBy : Model → Call → (refusal : ℕ) → Tables
@@ -66,12 +48,12 @@ module _ (m : Model) (x : Call) {r : ℕ} (e : r ≡ refusal m x) where
       go (suc k) = unfold outcome in
           rw (ne-eqb (suc k) 0 (λ z. omega arith)) (ap (λ (d : Desk). record { tables = m .tables; desk = d }) (sym (marked-same (m .tables) (m .desk))))
 
-  -- the answer of a call that only does something
-  pub answer-by : answer m x ≡ only 0 → step m x .answer ≡ only r
+  -- the answer of a call that refusedWith does something
+  pub answer-by : answer m x ≡ accepted → step m x .answer ≡ refusedWith r
   unfolding step
   answer-by plain = ap (λ (k : ℕ). outcome k m x .answer) (sym e) ∙ go r
     where
-      go : (k : ℕ) → outcome k m x .answer ≡ only k
+      go : (k : ℕ) → outcome k m x .answer ≡ refusedWith k
       go zero = unfold outcome in plain
       go (suc k) = unfold outcome in refl
 
