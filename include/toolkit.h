@@ -43,13 +43,13 @@ enum toolkit_refusal {
     TOOLKIT_MALFORMED = 1,              /* bytes malformed; profile empty */
     TOOLKIT_NO_APPLET = 2,              /* number outside 1..8, or no such applet (install: only outside 1..8) */
     TOOLKIT_NUMBER_IN_USE = 3,          /* number in use */
-    TOOLKIT_BAD_REQUEST = 4,            /* priority 0, limit too large, identifier over 127 */
+    TOOLKIT_OUT_OF_RANGE = 4,           /* priority 0, limit too large, identifier over 127 */
     TOOLKIT_TOO_MANY_ENTRIES = 5,       /* entry limits of all applets, this one included, exceed 12 */
     TOOLKIT_IDENTIFIER_TWICE = 6,       /* non-zero identifier requested twice, here or by an applet present */
-    TOOLKIT_EVENT_NOT_SUPPORTED = 7,    /* event value not supported */
-    TOOLKIT_EVENT_NOT_BY_CALL = 8,      /* menu selection, help request or timer expiration */
+    TOOLKIT_NOT_SUPPORTED = 7,          /* event value not supported */
+    TOOLKIT_NOT_TO_SET = 8,             /* menu selection, help request or timer expiration */
     TOOLKIT_CONTROL_OWNED = 9,          /* call control owned by another applet */
-    TOOLKIT_ENTRIES_ALL_MADE = 10,      /* all the applet's entries already made */
+    TOOLKIT_ALL_MADE = 10,              /* all the applet's entries already made */
     TOOLKIT_NOT_ITS_ROW = 11,           /* identifier is not a row of this applet */
     TOOLKIT_BAD_TEXT = 12,              /* text empty or over the applet's limit; title over 20 */
     TOOLKIT_TIMER_LIMIT = 13,           /* applet holds its timer limit or more */
@@ -57,7 +57,7 @@ enum toolkit_refusal {
     TOOLKIT_NOT_ITS_TIMER = 15,         /* timer not owned by this applet */
     TOOLKIT_OUTSTANDING = 16,           /* a proactive command is outstanding */
     TOOLKIT_SYSTEM_TYPE = 17,           /* SET UP MENU 25, SET UP EVENT LIST 05, POLL INTERVAL 03, POLLING OFF 04 (hex) */
-    TOOLKIT_BUFFER_TOO_SMALL = 18,      /* lent buffer under 256 bytes */
+    TOOLKIT_SHORT_BUFFER = 18,          /* lent buffer under 256 bytes */
     TOOLKIT_NONE_OUTSTANDING = 19       /* no command outstanding */
 };
 
