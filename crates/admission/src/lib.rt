@@ -7,6 +7,7 @@ use rules::Request;
 use rules::Roll;
 use rules::Row;
 use rules::Rows;
+use rules::refused;
 ghost use Prim.Native.Nat.{ℕ, _≤_, _<_};
 ghost use mathlib.Core.Path.{_≡_};
 ghost use mathlib.Core.Bool.{not, _&&_, _||_};
@@ -202,29 +203,29 @@ pub fn install_refusal(roll: Roll, applet: u8, request: Request) -> u8
     ensures { λ r. ⌜ RefusesInstall roll applet request r ⌝ }
 {
     if applet == 0 {
-        return 2;
+        return refused::NO_APPLET;
     }
     if LAST_APPLET < applet {
-        return 2;
+        return refused::NO_APPLET;
     }
     let there = sets::has(roll.present, applet);
     if there {
-        return 3;
+        return refused::NUMBER_IN_USE;
     }
     let pairs = looked_at(request);
     let range = is_out_of_range(request, pairs);
     if range {
-        return 4;
+        return refused::OUT_OF_RANGE;
     }
     let grants = roll.grants;
     let present = total(grants);
     let more = wide(request.entries);
     if MOST_ROWS < present + more {
-        return 5;
+        return refused::TOO_MANY_ENTRIES;
     }
     let clash = clashes(grants, pairs);
     if clash {
-        return 6;
+        return refused::IDENTIFIER_TWICE;
     }
     0
 }

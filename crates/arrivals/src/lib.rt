@@ -81,8 +81,9 @@ pub fn called(refusal: u8, whom: u8, selectable: u8) -> u8
 pub fn other_marks(outstanding: bool) -> Marks
     ensures { λ r. ⌜ r ≡ otherMarks outstanding ⌝ }
 {
+    let proactive = !outstanding;
     Marks {
-        proactive: !outstanding,
+        proactive,
         envelope: false,
         response: false,
     }

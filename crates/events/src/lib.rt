@@ -6,6 +6,7 @@ ghost use Rattle.rules.specs.Events.{kindOf, kindOfCode, notSupported, notToSet
 ghost use Rattle.rules.specs.Refusals.{line, lowest};
 ghost use Rattle.events.specs.Place.{placeOf};
 use rules::Kind;
+use rules::refused;
 
 // What an event value is.
 pub fn kind_of(value: i16) -> Kind
@@ -66,14 +67,14 @@ pub fn refusal_of(kind: Kind) -> u8
 {
     match kind {
         Kind::Event(place) => match place {
-            Kind::MENU_SELECTION => 8,
-            Kind::HELP_REQUEST => 8,
-            Kind::TIMER_EXPIRATION => 8,
+            Kind::MENU_SELECTION => refused::NOT_TO_SET,
+            Kind::HELP_REQUEST => refused::NOT_TO_SET,
+            Kind::TIMER_EXPIRATION => refused::NOT_TO_SET,
             _ => 0,
         },
-        Kind::Issuer => 7,
-        Kind::Reserved => 7,
-        Kind::Unsupported => 7,
+        Kind::Issuer => refused::NOT_SUPPORTED,
+        Kind::Reserved => refused::NOT_SUPPORTED,
+        Kind::Unsupported => refused::NOT_SUPPORTED,
     }
 }
 

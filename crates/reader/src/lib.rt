@@ -4,6 +4,7 @@ use rules::Item;
 use rules::Menu;
 use rules::Row;
 use rules::Rows;
+use rules::refused;
 ghost use mathlib.Core.Path.{_≡_};
 ghost use Prim.Native.Nat.{_≤_, _<_};
 ghost use lib.ListN.{length};
@@ -172,7 +173,7 @@ fn refusal() -> Menu
     let none = no_item();
     let at = [none; Rows::MOST];
     Menu {
-        refusal: 1,
+        refusal: refused::MALFORMED,
         title: [0; Desk::TITLE],
         title_len: 0,
         help: false,

@@ -4,6 +4,7 @@ use rules::Bank;
 use rules::Command;
 use rules::Desk;
 use rules::Kind;
+use rules::refused;
 ghost use mathlib.Core.Path.{_≡_};
 ghost use mathlib.Core.Bool.{not, _&&_};
 ghost use mathlib.Core.List.{[], _∷_};
@@ -21,7 +22,7 @@ pub fn title_refusal(title: &[u8]) -> u8
     ensures { λ r. ⌜ r ≡ lowest (line 12 (20 <? length (now (title .entry))) ∷ []) ⌝ }
 {
     if Desk::TITLE < title.len() {
-        return 12;
+        return refused::BAD_TEXT;
     }
     0
 }
@@ -33,7 +34,7 @@ pub fn refusal_for(there: bool, kind: Kind) -> u8
     if there {
         return events::refusal_of(kind);
     }
-    2
+    refused::NO_APPLET
 }
 
 // Where call control is owned by another applet.
@@ -46,7 +47,7 @@ fn refusal_of_control(control: u8, number: u8) -> u8
     if control == number {
         return 0;
     }
-    9
+    refused::CONTROL_OWNED
 }
 
 // Of set event: the same, or call control is owned by another applet.
@@ -69,9 +70,9 @@ pub fn row_refusal(there: bool, its: bool) -> u8
     ensures { λ r. ⌜ r ≡ lowest (line 2 (not there) ∷ line 11 (not its) ∷ []) ⌝ }
 {
     if !there {
-        return 2;
+        return refused::NO_APPLET;
     }
-    if its { 0 } else { 11 }
+    if its { 0 } else { refused::NOT_ITS_ROW }
 }
 
 // Whether an entry of the applet may have the text: it is not empty, and within the applet's limit.
@@ -93,7 +94,7 @@ fn text_refusal(before: u8, fits: bool) -> u8
     if before != 0 {
         return before;
     }
-    if fits { 0 } else { 12 }
+    if fits { 0 } else { refused::BAD_TEXT }
 }
 
 // Of change entry: the same as of enable, or the text does not fit.
@@ -109,10 +110,10 @@ fn made_refusal(there: bool, entries: u8, made: u8) -> u8
     ensures { λ r. ⌜ r ≡ lowest (line 2 (not there) ∷ line 10 (entries ≤? made) ∷ []) ⌝ }
 {
     if !there {
-        return 2;
+        return refused::NO_APPLET;
     }
     if entries <= made {
-        return 10;
+        return refused::ALL_MADE;
     }
     0
 }
@@ -146,15 +147,15 @@ fn lowest_line(there: bool, foreign: bool, outstanding: bool, system: bool) -> u
     ensures { λ r. ⌜ r ≡ lowest (line 2 (not there) ∷ line 15 foreign ∷ line 16 outstanding ∷ line 17 system ∷ []) ⌝ }
 {
     if !there {
-        return 2;
+        return refused::NO_APPLET;
     }
     if foreign {
-        return 15;
+        return refused::NOT_ITS_TIMER;
     }
     if outstanding {
-        return 16;
+        return refused::OUTSTANDING;
     }
-    if system { 17 } else { 0 }
+    if system { refused::SYSTEM_TYPE } else { 0 }
 }
 
 // Of a command that an applet sends.
@@ -167,7 +168,7 @@ pub fn send_refusal(command: Command, applet: u8, there: bool, bank: Bank, outst
             let foreign = timers::owner_of(bank, timer) != applet;
             lowest_line(there, foreign, outstanding, false)
         }
-        Command::Malformed => 1,
+        Command::Malformed => refused::MALFORMED,
     }
 }
 
@@ -175,7 +176,11 @@ pub fn send_refusal(command: Command, applet: u8, there: bool, bank: Bank, outst
 pub fn response_refusal(outstanding: bool) -> u8
     ensures { λ r. ⌜ r ≡ lowest (line 19 (not outstanding) ∷ []) ⌝ }
 {
-    if outstanding { 0 } else { 19 }
+    if outstanding {
+        0
+    } else {
+        refused::NONE_OUTSTANDING
+    }
 }
 
 // Of a system command: one is outstanding, or the lent buffer has fewer than 256 bytes.
@@ -183,7 +188,7 @@ pub fn hand_refusal(outstanding: bool, room: usize) -> u8
     ensures { λ r. ⌜ r ≡ lowest (line 16 outstanding ∷ line 18 (room <? 256) ∷ []) ⌝ }
 {
     if outstanding {
-        return 16;
+        return refused::OUTSTANDING;
     }
-    if room < 256 { 18 } else { 0 }
+    if room < 256 { refused::SHORT_BUFFER } else { 0 }
 }
