@@ -11,3 +11,4 @@ pub mod Carried
 pub mod FiringOnce
 pub mod Documented
 pub mod Final
+pub mod Through

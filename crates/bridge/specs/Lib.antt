@@ -3,3 +3,4 @@ pub mod Watched
 pub mod OneShots
 pub mod DocumentOne
 pub mod Promised
+pub mod Doors

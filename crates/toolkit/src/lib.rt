@@ -7,13 +7,8 @@ use rules::Answer;
 use rules::Bank;
 use rules::Found;
 use rules::Menu;
-ghost use mathlib.Core.Path.{_≡_};
-ghost use Rattle.rules.specs.Holds.{document};
-ghost use Rattle.rules.specs.Held.{storedMenu};
-ghost use Rattle.rules.specs.Bytes.{found};
-ghost use Rattle.rules.specs.Beside.{freshCard, menuReader};
 ghost use Rattle.timers.specs.Promises.{Allocates, Releases};
-ghost use Rattle.toolkit.specs.Beside.{madeOf, spotOf, contentSpot};
+ghost use Rattle.toolkit.specs.Beside.{Makes, Finds, FindsContent, ReadsMenu};
 
 // A fresh card, and the refusal's number (0: none).
 #[repr(C)]
@@ -33,7 +28,7 @@ pub struct Spot {
 // A fresh card with a title; with an empty one where it is refused.
 #[no_mangle]
 pub extern "C" fn toolkit_fresh(title: &[u8]) -> Made
-    ensures { λ r. ⌜ r ≡ madeOf (freshCard document (now (title .entry))) ⌝ }
+    ensures { λ r. ⌜ Makes (now (title .entry)) r ⌝ }
 {
     let made = Card::fresh(title);
     let card = made.card;
@@ -47,7 +42,7 @@ pub extern "C" fn toolkit_fresh(title: &[u8]) -> Made
 // Where the value of an element stands in a run.
 #[no_mangle]
 pub extern "C" fn toolkit_find(run: &[u8], tag: u16, occurrence: usize) -> Spot
-    ensures { λ r. ⌜ r ≡ spotOf (found (now (run .entry)) tag occurrence) ⌝ }
+    ensures { λ r. ⌜ Finds (now (run .entry)) tag occurrence r ⌝ }
 {
     let place = tlv::locate(run, tag, occurrence);
     match place {
@@ -67,7 +62,7 @@ pub extern "C" fn toolkit_find(run: &[u8], tag: u16, occurrence: usize) -> Spot
 // Where the handler's content stands in an envelope, at its end; nowhere where the envelope is malformed.
 #[no_mangle]
 pub extern "C" fn toolkit_content(envelope: &[u8]) -> Spot
-    ensures { λ r. ⌜ r ≡ contentSpot (now (envelope .entry)) ⌝ }
+    ensures { λ r. ⌜ FindsContent (now (envelope .entry)) r ⌝ }
 {
     let part = envelopes::content(envelope);
     let len = part.len();
@@ -81,7 +76,7 @@ pub extern "C" fn toolkit_content(envelope: &[u8]) -> Spot
 // The title, the help mark and the items of a menu command.
 #[no_mangle]
 pub extern "C" fn toolkit_read_menu(bytes: &[u8]) -> Menu
-    ensures { λ r. ⌜ r ≡ storedMenu (menuReader document (now (bytes .entry))) ⌝ }
+    ensures { λ r. ⌜ ReadsMenu (now (bytes .entry)) r ⌝ }
 {
     reader::read_menu(bytes)
 }
