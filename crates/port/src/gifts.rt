@@ -2,9 +2,9 @@
 use crate::Posted;
 use crate::numbered;
 use asks::Gift;
-use asks::byte_at;
-use asks::from;
 use card::Card;
+use texts::byte_at;
+use texts::from;
 ghost use Rattle.card.specs.View.{view, Left};
 ghost use Rattle.asks.specs.Asks.{giftCall};
 ghost use Rattle.port.specs.Posts.{Gives};
