@@ -1,10 +1,10 @@
 // The line of an answer, by what was asked for.
 use asks::Ask;
 use asks::Gift;
-use asks::first;
 use lines::Refusal;
 use lines::write_line;
 use rules::Answer;
+use texts::first;
 ghost use mathlib.Core.Path.{_≡_};
 ghost use mathlib.Core.List.{[]};
 ghost use Prim.Native.Nat.{ℕ, _≤_};

@@ -2,9 +2,9 @@
 // It calls nothing: what is asked for is known before the card is looked at. Here too is what the calls take of the bytes.
 use rules::Pair;
 use rules::Request;
+use texts::byte_at;
 ghost use mathlib.Core.Path.{_≡_};
 ghost use Prim.Native.Nat.{_+_, _≤_};
-ghost use lib.ListN.{take, drop};
 ghost use Rattle.rules.specs.Bytes.{byte};
 ghost use Rattle.rules.specs.Floor.{signed, requestOf};
 ghost use Rattle.asks.specs.Asks.{fits, deedFits, giftFits, arrivalFits, marksHelp};
@@ -40,37 +40,6 @@ pub enum Ask {
     Gift(Gift),
     Arrival(Arrival),
     Unknown,
-}
-
-// The bytes from a place on, or none behind the end.
-pub fn from(bytes: &[u8], at: usize) -> &[u8]
-    ensures { λ r. ⌜ now r ≡ drop at (now (bytes .entry)) ⌝ }
-{
-    let len = bytes.len();
-    if len < at {
-        return &bytes[len..];
-    }
-    &bytes[at..]
-}
-
-// The first bytes, so many or as many as there are.
-pub fn first(bytes: &[u8], n: usize) -> &[u8]
-    ensures { λ r. ⌜ now r ≡ take n (now (bytes .entry)) ⌝ }
-{
-    if bytes.len() < n {
-        return bytes;
-    }
-    &bytes[..n]
-}
-
-// The byte at an index, or 0 behind the end.
-pub fn byte_at(s: &[u8], at: usize) -> u8
-    ensures { λ r. ⌜ r ≡ byte (now (s .entry)) at ⌝ }
-{
-    if at < s.len() {
-        return s[at];
-    }
-    0
 }
 
 // The signed number that two bytes give.

@@ -35,42 +35,12 @@ fn place_of(cause: Cause) -> usize {
     }
 }
 
-// The place of the first line feed from a position on, or the end.
-fn line_end(s: &[u8], from: usize) -> usize
-    requires { ⌜ from ≤ length (now s) ⌝ }
-    ensures { λ r. ⌜ (from ≤ r) × (r ≤ length (now (s .entry))) ⌝ }
-{
-    let mut i = from;
-    while i < s.len() {
-        if s[i] == b'\n' {
-            return i;
-        }
-        i += 1;
-    }
-    i
-}
-
-// Writes the line of a text at a place, counted from 0.
-fn say_line(text: &[u8], place: usize) {
-    let mut line: usize = 0;
-    let mut at: usize = 0;
-    while at < text.len() {
-        let end = line_end(text, at);
-        if line == place {
-            io::write_all(STDERR_FILENO, &text[at..end]);
-            return;
-        }
-        line += 1;
-        at = end + 1;
-    }
-}
-
 // Says which line is bad, and why.
 fn complain(line: u64, cause: Cause) {
     io::write_all(STDERR_FILENO, b"compose: line ");
     io::print_decimal(STDERR_FILENO, line);
     io::write_all(STDERR_FILENO, b": ");
-    say_line(
+    let why = texts::line_at(
         b"unknown letter\n\
           missing applet\n\
           missing number\n\
@@ -86,6 +56,7 @@ fn complain(line: u64, cause: Cause) {
           line too long\n",
         place_of(cause),
     );
+    io::write_all(STDERR_FILENO, why);
     io::write_all(STDERR_FILENO, b"\n");
 }
 

@@ -1,6 +1,7 @@
 // A menu command with one thing wrong, and the same for each place where it can be wrong.
 // What is counted is how many were tried and how many of them the reader refuses.
 use libc::STDOUT_FILENO;
+use texts::byte_at;
 ghost use Prim.Native.Nat.{_<_, _≤_, _+_};
 ghost use lib.ListN.{length};
 
@@ -24,14 +25,6 @@ fn changed(old: u8, way: Way) -> u8 {
         Way::Turned(bits) => old ^ bits,
         Way::To(b) => b,
     }
-}
-
-// The byte at a position; 0 where there is none.
-fn byte_at(s: &[u8], at: usize) -> u8 {
-    if at < s.len() {
-        return s[at];
-    }
-    0
 }
 
 fn none() -> Tried {

@@ -2,6 +2,7 @@
 // Below a handed-out menu stands, for each kind of damage, how many commands so damaged the reader refuses.
 mod damage;
 
+use bytes::scan::find;
 use card::Card;
 use libc::STDOUT_FILENO;
 use rules::Item;
@@ -15,12 +16,8 @@ fn put(text: &[u8]) {
     io::write_all(STDOUT_FILENO, text);
 }
 
-fn wide(b: u8) -> u64 {
-    b as u64
-}
-
 fn put_byte(b: u8) {
-    io::print_hex(STDOUT_FILENO, wide(b), 2);
+    io::print_hex(STDOUT_FILENO, b as u64, 2);
 }
 
 // The first n bytes.
@@ -34,34 +31,9 @@ fn put_front(s: &[u8], n: u8) {
     }
 }
 
-// The place of the first line feed from a position on, or the end.
-fn line_end(s: &[u8], from: usize) -> usize
-    requires { ⌜ from ≤ length (now s) ⌝ }
-    ensures { λ r. ⌜ (from ≤ r) × (r ≤ length (now (s .entry))) ⌝ }
-{
-    let mut i = from;
-    while i < s.len() {
-        if s[i] == b'\n' {
-            return i;
-        }
-        i += 1;
-    }
-    i
-}
-
 // Writes the line of a text at a place, counted from 0.
 fn put_line(text: &[u8], place: usize) {
-    let mut line: usize = 0;
-    let mut at: usize = 0;
-    while at < text.len() {
-        let end = line_end(text, at);
-        if line == place {
-            put(&text[at..end]);
-            return;
-        }
-        line += 1;
-        at = end + 1;
-    }
+    put(texts::line_at(text, place));
 }
 
 fn put_item(item: Item) {
@@ -199,7 +171,7 @@ fn try_none(title: &[u8]) {
 fn try_written(s: &[u8]) {
     let mut at: usize = 0;
     while at < s.len() {
-        let mark = line_end(s, at);
+        let mark = find(s, at, s.len(), b'\n');
         let end = damage::past(s, mark + 1);
         if s.len() < end {
             return;

@@ -1,9 +1,6 @@
 // The records of a piece of input obeyed, and their lines, one behind the other.
 use answers::write_answer;
 use asks::Ask;
-use asks::byte_at;
-use asks::first;
-use asks::from;
 use card::Card;
 use lines::count_on;
 use lines::put_decimal;
@@ -13,6 +10,9 @@ use port::deeds::do_deed;
 use port::gifts::give;
 use port::naming::name;
 use port::unasked;
+use texts::byte_at;
+use texts::first;
+use texts::from;
 ghost use mathlib.Core.Path.{_≡_};
 ghost use Prim.Native.Nat.{_+_, _*_, _^_, _<_, _≤_};
 ghost use lib.ListN.{length};

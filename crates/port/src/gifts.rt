@@ -1,9 +1,9 @@
 // The calls that give a number.
 use asks::Gift;
-use asks::byte_at;
-use asks::from;
 use card::Card;
 use card::Reply;
+use texts::byte_at;
+use texts::from;
 ghost use Rattle.card.specs.View.{view, Left};
 ghost use Rattle.asks.specs.Asks.{giftCall};
 ghost use Rattle.port.specs.Posts.{Gives};

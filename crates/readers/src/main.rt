@@ -1,5 +1,6 @@
 // Reads lines `name: letter bytes` in upper hexadecimal and writes behind each name what the readers make of the bytes: e envelope, c command,
 // o outer element, f search (tag and occurrence, two bytes each, and the run), v event value (two bytes), d download code.
+use bytes::scan::find;
 use libc::STDIN_FILENO;
 use libc::STDOUT_FILENO;
 use rules::Command;
@@ -9,21 +10,6 @@ use rules::Kind;
 use rules::Outer;
 ghost use Prim.Native.Nat.{_≤_};
 ghost use lib.ListN.{length};
-
-// The place of the first such byte from a position on, or the end.
-fn end_of(s: &[u8], from: usize, b: u8) -> usize
-    requires { ⌜ from ≤ length (now s) ⌝ }
-    ensures { λ r. ⌜ (from ≤ r) × (r ≤ length (now (s .entry))) ⌝ }
-{
-    let mut i = from;
-    while i < s.len() {
-        if s[i] == b {
-            return i;
-        }
-        i += 1;
-    }
-    i
-}
 
 // The value of a digit.
 fn digit(c: u8) -> u8
@@ -57,16 +43,12 @@ fn unhex(text: &[u8], out: &mut [u8]) -> usize
     n
 }
 
-fn wide(b: u8) -> u64 {
-    b as u64
-}
-
 fn put(text: &[u8]) {
     io::write_all(STDOUT_FILENO, text);
 }
 
 fn put_byte(b: u8) {
-    io::print_hex(STDOUT_FILENO, wide(b), 2);
+    io::print_hex(STDOUT_FILENO, b as u64, 2);
 }
 
 fn put_place(n: usize) {
@@ -87,17 +69,7 @@ fn put_bytes(s: &[u8]) {
 
 // Writes the line of a text at a place, counted from 0.
 fn put_line(text: &[u8], place: usize) {
-    let mut line: usize = 0;
-    let mut at: usize = 0;
-    while at < text.len() {
-        let end = end_of(text, at, b'\n');
-        if line == place {
-            put(&text[at..end]);
-            return;
-        }
-        line += 1;
-        at = end + 1;
-    }
+    put(texts::line_at(text, place));
 }
 
 fn put_named(names: &[u8], place: usize, b: u8) {
@@ -266,7 +238,7 @@ fn say(letter: u8, s: &[u8]) {
 }
 
 fn answer(line: &[u8], bytes: &mut [u8]) {
-    let mark = end_of(line, 0, b':');
+    let mark = find(line, 0, line.len(), b':');
     if line.len() - mark < 3 {
         return;
     }
@@ -280,7 +252,7 @@ fn answer(line: &[u8], bytes: &mut [u8]) {
 fn answer_all(text: &[u8], bytes: &mut [u8]) {
     let mut at: usize = 0;
     while at < text.len() {
-        let end = end_of(text, at, b'\n');
+        let end = find(text, at, text.len(), b'\n');
         answer(&text[at..end], bytes);
         at = end + 1;
     }

@@ -1,82 +1,188 @@
--- Records one behind the other in the output: a record more leaves those before it as they were.
+-- Lines one behind the other in a text, and their records one behind the other in the output.
 -- Assumes nothing.
-use Prim.Native.Nat.{ℕ, _+_, _*_, _≤_, _<_}
-use mathlib.Core.Path.{_≡_, sym, ap, _∙_}
-use mathlib.Core.List.{List, _++_}
-use mathlib.Core.Logic.{⊎-elim}
-use native.Mathlib.Nat.{eq-or-lt-of-le}
+use Prim.Native.Nat.{ℕ, zero, suc, _+_, _-_, _*_, _≤_, _<_}
 use native.Mathlib.Omega.{arith}
-use lib.ListN.{length, take, drop, length-drop, take-append-drop}
-use lib.Seq.{length-take-le, take-append-le, drop-append-le, take-at, drop-at}
+use native.Mathlib.Numerals.{add-one}
+use native.Mathlib.Nat.{eq-or-lt-of-le}
+use mathlib.Core.Path.{_≡_, refl, sym, ap, _∙_}
+use mathlib.Core.Bool.{Bool, true, false}
+use mathlib.Core.List.{List, [], _∷_, _++_, append-assoc, append-nil}
+use mathlib.Core.Logic.{⊎-elim}
+use lib.Dec.{eqb, ltb}
+use lib.ListN.{length, take, drop, length-drop, length-append, drop-of-length-le}
+use lib.Seq.{length-take-le, take-at, take-all, drop-drop}
 use borrow.Author.Count.{below-more}
+use borrow.Author.Tests.{lt-ltb, le-ltb, ltb-false, ne-eqb}
 use borrow.Rule.Slice.PartMut.{putMid, postOf}
+use types.Run.{OneOf}
+use Rattle.bytes.specs.Bytes.{indexOf, slice}
+use Rattle.script_line.specs.Lines.{Meaning, blank, record-of, wrong, meaningOf}
+use Rattle.script_line.specs.Records.{heard}
+use Rattle.script_line.specs.declared.Cause.{Cause}
+use Rattle.script_line.specs.declared.Cause.the-variants.{LongLine}
 use Rattle.script_line.specs.declared.Outcome.{Outcome}
 use Rattle.script_line.specs.declared.Outcome.the-variants as outcome
-use Rattle.script_line.specs.Records.{Made, Taken}
-use Rattle.script.specs.Texts.{madeOf, Standing}
+use Rattle.script.specs.declared.Stop.{Stop}
+use Rattle.script.specs.declared.Stop.the-variants.{End, Full, Bad}
+use Rattle.script.specs.Texts.{madeOf, Standing, Stops, Ends, Good, recordIn, recordsOf, behindLines, firstLine, lineMeaning, unfinishedOf, endedOf, trimmedOf}
 
--- a block of the front does not depend on what is behind it
-front : (p z : List ℕ) (j : ℕ) → j + 24 ≤ length p → take 24 (drop j (p ++ z)) ≡ take 24 (drop j p)
-front p z j h =
-    let long : j ≤ length p = omega arith in
-    ap (take 24) (drop-append-le j p z long) ∙ take-append-le 24 (drop j p) z (omega (arith, length-drop j p))
+-- a line of at most 200 bytes
+pub short-line : {x : Meaning} {n : ℕ} (l : List ℕ) → length l ≤ 200 → n ≡ trimmedOf l → x ≡ meaningOf (take n l) → x ≡ lineMeaning l
+unfolding lineMeaning
+short-line l h t e = simp (le-ltb _ _ h) (e ∙ ap (λ n. meaningOf (take n l)) t)
+
+-- one line more behind the others
+behind-more : (n : ℕ) (text : List ℕ) → drop (suc (indexOf 0x0A (behindLines n text))) (behindLines n text) ≡ behindLines (suc n) text
+unfolding behindLines
+behind-more zero text = refl
+behind-more (suc n) text = behind-more n (drop (suc (indexOf 0x0A text)) text)
+
+records-more : (n : ℕ) (text : List ℕ) → recordsOf n text ++ recordIn (lineMeaning (firstLine (behindLines n text))) ≡ recordsOf (suc n) text
+unfolding recordsOf behindLines
+records-more zero text = sym (append-nil (recordIn (lineMeaning (firstLine text))))
+records-more (suc n) text =
+    let rest = drop (suc (indexOf 0x0A text)) text in
+    append-assoc (recordIn (lineMeaning (firstLine text))) (recordsOf n rest) _ ∙ ap (λ l. recordIn (lineMeaning (firstLine text)) ++ l) (records-more n rest)
+
+-- the line at a place, by its end
+module _ (text : List ℕ) (at : ℕ) {end : ℕ} (e : end ≡ at + indexOf 0x0A (slice at (length text) text)) where
+  pub end-is : end ≡ at + indexOf 0x0A (drop at text)
+  unfolding slice
+  end-is = e ∙ ap (λ t. at + indexOf 0x0A (drop at t)) (let all : length text ≤ length text = omega arith in take-all (length text) text all)
+
+  pub first-is : take (end - at) (drop at text) ≡ firstLine (drop at text)
+  unfolding firstLine
+  first-is = let k : end - at ≡ indexOf 0x0A (drop at text) = omega (arith, end-is) in ap (λ n. take n (drop at text)) k
+
+  pub next-is : {next : ℕ} → end ≤ length text → end ≤ next → next ≤ length text → (end < length text → next ≡ end + 1) → drop next text ≡ drop (suc (indexOf 0x0A (drop at text))) (drop at text)
+  next-is {next} high low few one = ⊎-elim last inner (eq-or-lt-of-le high) ∙ sym (drop-drop (suc (indexOf 0x0A (drop at text))) at text)
+    where
+      last : end ≡ length text → drop next text ≡ drop (at + suc (indexOf 0x0A (drop at text))) text
+      last h =
+          let a : length text ≤ next = omega arith in
+          let b : length text ≤ at + suc (indexOf 0x0A (drop at text)) = omega (arith, end-is) in
+          drop-of-length-le text a ∙ sym (drop-of-length-le text b)
+
+      inner : end < length text → drop next text ≡ drop (at + suc (indexOf 0x0A (drop at text))) text
+      inner h = let k : next ≡ at + suc (indexOf 0x0A (drop at text)) = omega (arith, end-is, one h) in ap (λ n. drop n text) k
+
+  -- the next line starts behind the start of this one
+  pub line-past : {next : ℕ} → at < length text → end ≤ next → (end < length text → next ≡ end + 1) → end ≤ length text → at < next
+  line-past within low one high = ⊎-elim (λ h. omega (arith, end-is)) (λ h. omega (arith, end-is, one h)) (eq-or-lt-of-le high)
 
 module _ (m k : ℕ) (out part : List ℕ) (room : m * 24 ≤ length out) where
-  -- the blocks before a place stay
-  block-old : (i : ℕ) → i < m → take 24 (drop (i * 24) (putMid (m * 24) k out part)) ≡ take 24 (drop (i * 24) out)
-  block-old i h =
-      let fits : i * 24 + 24 ≤ length (take (m * 24) out) = omega (arith, length-take-le (m * 24) out room) in
-      front (take (m * 24) out) (part ++ postOf (m * 24) k out) (i * 24) fits
-      ∙ (sym (front (take (m * 24) out) (drop (m * 24) out) (i * 24) fits)
-      ∙ ap (λ l. take 24 (drop (i * 24) l)) (take-append-drop (m * 24) out))
+  -- the records before a place stay
+  front-stays : take (m * 24) (putMid (m * 24) k out part) ≡ take (m * 24) out
+  front-stays = take-at (take (m * 24) out) (part ++ postOf (m * 24) k out) (m * 24) (length-take-le (m * 24) out room)
 
-  -- the block at the place is the new one
-  block-new : length part ≡ 24 → take 24 (drop (m * 24) (putMid (m * 24) k out part)) ≡ part
-  block-new h =
-      ap (take 24) (drop-at (take (m * 24) out) (part ++ postOf (m * 24) k out) (m * 24) (length-take-le (m * 24) out room))
-      ∙ take-at part (postOf (m * 24) k out) 24 h
-
-  kept : ((i : ℕ) → i < m → Taken (take 24 (drop (i * 24) out))) → (i : ℕ) → i < m → Taken (take 24 (drop (i * 24) (putMid (m * 24) k out part)))
-  kept f i h = rw (block-old i h) (f i h)
-
-  grown : Taken part → ((i : ℕ) → i < m → Taken (take 24 (drop (i * 24) out))) → (i : ℕ) → i < m + 1 → Taken (take 24 (drop (i * 24) (putMid (m * 24) k out part)))
-  grown t f = below-more (λ i. Taken (take 24 (drop (i * 24) (putMid (m * 24) k out part)))) m (kept f) (rw (block-new (t .long)) t)
+  -- the new record stands behind them
+  front-grows : length part ≡ 24 → take ((m + 1) * 24) (putMid (m * 24) k out part) ≡ take (m * 24) out ++ part
+  front-grows h =
+      let long : length (take (m * 24) out ++ part) ≡ (m + 1) * 24 = omega (arith, length-append (take (m * 24) out) part, length-take-le (m * 24) out room) in
+      ap (take ((m + 1) * 24)) (sym (append-assoc (take (m * 24) out) part (postOf (m * 24) k out)))
+      ∙ take-at (take (m * 24) out ++ part) (postOf (m * 24) k out) ((m + 1) * 24) long
 
 -- a line that is bad leaves all as it was
 pub standing-kept : {at records lines : ℕ} {text out : List ℕ} (k : ℕ) (part : List ℕ) → length (putMid (records * 24) k out part) ≡ length out
     → Standing at records lines text out → Standing at records lines text (putMid (records * 24) k out part)
-standing-kept {records = m} {out = out} k part same s = record
-    { read = s .read; fits = omega (arith, s .fits, same); lined = s .lined; few = s .few; taken = kept m k out part (s .fits) (s .taken) }
+standing-kept {records = m} {out = out} k part same s = record {
+  read = s .read;
+  fits = omega (arith, s .fits, same);
+  lined = s .lined;
+  few = s .few;
+  left = s .left;
+  good = s .good;
+  made = front-stays m k out part (s .fits) ∙ s .made;
+}
 
-module _ {at m lines next : ℕ} {text out : List ℕ} (k : ℕ) (part : List ℕ) (room : m * 24 + 24 ≤ length out)
-    (same : length (putMid (m * 24) k out part) ≡ length out) (past : at < next) (within : next ≤ length text) (s : Standing at m lines text out) where
-  -- a line that gave no record
-  blank : Standing next (m + 0) (lines + 1) text (putMid (m * 24) k out part)
-  blank = record {
-    read = within;
-    fits = omega (arith, room, same);
-    lined = omega (arith, s .lined);
-    few = omega (arith, s .few);
-    taken = λ i h. kept m k out part (s .fits) (s .taken) i (omega (arith, h));
-  }
+-- a record or nothing is not bad
+good-record : {x : Meaning} (s : List ℕ) → record-of s ≡ x → Good x
+unfolding Good
+good-record s e = rw (sym e) tt
+
+good-blank : {x : Meaning} → blank ≡ x → Good x
+unfolding Good
+good-blank e = rw (sym e) tt
+
+module _ {at m lines next : ℕ} {text out : List ℕ} (k : ℕ) (part : List ℕ) (long : length part ≡ 24) (room : m * 24 + 24 ≤ length out)
+    (same : length (putMid (m * 24) k out part) ≡ length out) (past : at < next) (within : next ≤ length text)
+    (on : drop next text ≡ drop (suc (indexOf 0x0A (drop at text))) (drop at text)) (s : Standing at m lines text out) where
+  line-is : {x : Meaning} → x ≡ lineMeaning (firstLine (drop at text)) → x ≡ lineMeaning (firstLine (behindLines lines text))
+  line-is e = e ∙ ap (λ t. lineMeaning (firstLine t)) (s .left)
+
+  further : drop next text ≡ behindLines (lines + 1) text
+  further = on ∙ ap (λ t. drop (suc (indexOf 0x0A t)) t) (s .left) ∙ behind-more lines text ∙ sym (ap (λ n. behindLines n text) (add-one lines))
+
+  all-made : {made : List ℕ} → made ≡ take (m * 24) out ++ recordIn (lineMeaning (firstLine (behindLines lines text))) → made ≡ recordsOf (lines + 1) text
+  all-made e =
+      e ∙ ap (λ l. l ++ recordIn (lineMeaning (firstLine (behindLines lines text)))) (s .made) ∙ records-more lines text ∙ sym (ap (λ n. recordsOf n text) (add-one lines))
 
   -- a line more, with its record if it gave one
-  pub standing-more : (o : Outcome) → Made o (Taken part) → Standing next (m + madeOf o) (lines + 1) text (putMid (m * 24) k out part)
-  standing-more outcome.Record t = record {
+  pub standing-more : (o : Outcome) → ((c : Cause) → o ≡ outcome.Bad c → ⊥) → heard o part ≡ lineMeaning (firstLine (drop at text))
+      → Standing next (m + madeOf o) (lines + 1) text (putMid (m * 24) k out part)
+  unfolding recordIn
+  standing-more outcome.Record n e = record {
     read = within;
     fits = omega (arith, room, same);
     lined = omega (arith, s .lined);
     few = omega (arith, s .few);
-    taken = grown m k out part (s .fits) t (s .taken);
+    left = further;
+    good = below-more (λ i. Good (lineMeaning (firstLine (behindLines i text)))) lines (s .good) (good-record part (line-is e));
+    made = all-made (front-grows m k out part (s .fits) long ∙ ap (λ x. take (m * 24) out ++ recordIn x) (line-is e));
   }
-  standing-more outcome.Blank t = blank
-  standing-more (outcome.Bad c) t = blank
-
--- the next line starts behind the start of this one
-pub line-past : {from end next n : ℕ} → from < n → from ≤ end → end ≤ n → (end < n → end < next) → end ≤ next → from < next
-line-past low start high more least = ⊎-elim (λ e. omega arith) (λ l. omega (arith, more l)) (eq-or-lt-of-le high)
+  standing-more outcome.Blank n e = record {
+    read = within;
+    fits = omega (arith, room, same);
+    lined = omega (arith, s .lined);
+    few = omega (arith, s .few);
+    left = further;
+    good = below-more (λ i. Good (lineMeaning (firstLine (behindLines i text)))) lines (s .good) (good-blank (line-is e));
+    made =
+        let z : (m + 0) * 24 ≡ m * 24 = omega arith in
+        all-made (ap (λ j. take j (putMid (m * 24) k out part)) z ∙ front-stays m k out part (s .fits) ∙ sym (append-nil (take (m * 24) out)) ∙ ap (λ x. take (m * 24) out ++ recordIn x) (line-is e));
+  }
+  standing-more (outcome.Bad c) n e = absurd (n c refl)
 
 pub made-few : (o : Outcome) → madeOf o ≤ 1
 made-few outcome.Record = omega arith
 made-few outcome.Blank = omega arith
 made-few (outcome.Bad c) = omega arith
+
+-- a line that may still go on
+pub stops-unfinished : {x : Stop} {last : Bool} {n : ℕ} (left out : List ℕ) (records : ℕ) → x ≡ unfinishedOf n → last ≡ false → n ≡ length left → indexOf 0x0A left ≡ n
+    → records * 24 + 24 ≤ length out → Stops x last left out records
+unfolding firstLine lineMeaning
+stops-unfinished {x} {last} {n} left out records e off size whole room = rw off (go (ltb 200 n) refl)
+  where
+    go : (t : Bool) → ltb 200 n ≡ t → Stops x false left out records
+    go true h =
+        let l : length left ≤ indexOf 0x0A left = omega arith in
+        let all : take (indexOf 0x0A left) left ≡ left = take-all (indexOf 0x0A left) left l in
+        let k : ltb 200 (length left) ≡ true = ap (λ m. ltb 200 m) (sym size) ∙ h in
+        let f : x ≡ Bad LongLine = e ∙ simp h in
+        rw f (simp (all, k), room)
+    go false h =
+        let f : x ≡ End = e ∙ simp h in
+        let few : n ≤ 200 = ltb-false _ _ h in
+        rw f (whole ∙ size, omega arith)
+
+-- no line is left, or no room
+pub stops-ended : {x : Stop} {n : ℕ} (last : Bool) (left out : List ℕ) (records : ℕ) → x ≡ endedOf n → n ≡ length left → (0 < length left → length out < records * 24 + 24) → Stops x last left out records
+unfolding indexOf
+stops-ended {x} last [] out records e size full = let f : x ≡ End = e ∙ ap endedOf size in rw f (go last)
+  where
+    go : (b : Bool) → Ends b []
+    go true = refl
+    go false = (refl, omega arith)
+stops-ended {x} last (b ∷ left) out records e size full =
+    let some : length (b ∷ left) ≡ 0 → ⊥ = λ z. omega arith in
+    let f : x ≡ Full = e ∙ ap endedOf size ∙ simp (ne-eqb _ _ some) in
+    rw f (omega arith, full (omega arith))
+
+-- what a bad line means
+pub bad-line : {r : Outcome} {c : Cause} {l k : List ℕ} (part : List ℕ) → heard r part ≡ lineMeaning l → r ≡ outcome.Bad c → l ≡ k → lineMeaning k ≡ wrong c
+bad-line part e b f = ap lineMeaning (sym f) ∙ sym e ∙ ap (λ o. heard o part) b
+
+-- one of the first two variants is not the third
+pub never-two : {x : ℕ} → OneOf (0 ∷ 1 ∷ []) x → x ≡ 2 → ⊥
+never-two w e = ⊎-elim (λ z. omega arith) (λ o. omega arith) w

@@ -4,11 +4,10 @@ use script_line::Cause;
 use script_line::Outcome;
 use script_line::record;
 ghost use mathlib.Core.Path.{_≡_};
-ghost use Prim.Native.Nat.{_≤_, _<_};
+ghost use Prim.Native.Nat.{_+_, _≤_, _<_};
 ghost use lib.ListN.{length};
-ghost use Rattle.script_line.specs.Words.{Within};
-ghost use Rattle.script_line.specs.Records.{Made, Taken};
-ghost use Rattle.script.specs.Texts.{Composed, madeOf};
+ghost use Rattle.script_line.specs.Records.{heard};
+ghost use Rattle.script.specs.Texts.{Composed, madeOf, trimmedOf, lineMeaning, unfinishedOf, endedOf};
 
 // Where the composing of a text stopped.
 pub enum Stop {
@@ -25,24 +24,9 @@ pub struct Progress {
     pub stop: Stop,
 }
 
-// Where the line that starts here ends: at its line feed, or at the end of the text.
-fn line_end(text: &[u8], from: usize) -> usize
-    requires { ⌜ from ≤ length (now text) ⌝ }
-    ensures { λ r. ⌜ Within from r (now (text .entry)) ⌝ }
-{
-    let mut at = from;
-    while at < text.len() {
-        if text[at] == b'\n' {
-            return at;
-        }
-        at += 1;
-    }
-    at
-}
-
 // A line without the carriage return at its end.
 fn trimmed(line: &[u8]) -> usize
-    ensures { λ r. ⌜ r ≤ length (now (line .entry)) ⌝ }
+    ensures { λ r. ⌜ (r ≡ trimmedOf (now (line .entry))) × (r ≤ length (now (line .entry))) ⌝ }
 {
     let n = line.len();
     if n == 0 {
@@ -57,7 +41,7 @@ fn trimmed(line: &[u8]) -> usize
 // The record of a line of at most 200 bytes.
 fn line_record(line: &[u8], out: &mut [u8]) -> Outcome
     requires { ⌜ length (now out) ≡ 24 ⌝ }
-    ensures { λ r. ⌜ Made r (Taken (now (out .exit))) ⌝ }
+    ensures { λ r. ⌜ heard r (now (out .exit)) ≡ lineMeaning (now (line .entry)) ⌝ }
 {
     if 200 < line.len() {
         return Outcome::Bad(Cause::LongLine);
@@ -69,7 +53,7 @@ fn line_record(line: &[u8], out: &mut [u8]) -> Outcome
 // Where the next line starts.
 fn behind(text: &[u8], end: usize) -> usize
     requires { ⌜ end ≤ length (now text) ⌝ }
-    ensures { λ r. ⌜ Within end r (now (text .entry)) × (end < length (now (text .entry)) → end < r) ⌝ }
+    ensures { λ r. ⌜ (end ≤ r) × (r ≤ length (now (text .entry))) × (end < length (now (text .entry)) → r ≡ end + 1) ⌝ }
 {
     if end < text.len() {
         return end + 1;
@@ -78,7 +62,9 @@ fn behind(text: &[u8], end: usize) -> usize
 }
 
 // What a line that may still go on says: nothing yet, unless it is too long already.
-fn unfinished(left: usize) -> Stop {
+fn unfinished(left: usize) -> Stop
+    ensures { λ r. ⌜ r ≡ unfinishedOf left ⌝ }
+{
     if 200 < left {
         return Stop::Bad(Cause::LongLine);
     }
@@ -97,7 +83,9 @@ fn made(outcome: Outcome) -> usize
 }
 
 // Why composing ends where no line is bad: nothing is left of the text, or there is no room for a record.
-fn ended(left: usize) -> Stop {
+fn ended(left: usize) -> Stop
+    ensures { λ r. ⌜ r ≡ endedOf left ⌝ }
+{
     if left == 0 {
         return Stop::End;
     }
@@ -107,13 +95,13 @@ fn ended(left: usize) -> Stop {
 // The records of a text's lines, one behind the other, up to the first line that is bad or for which `out` has no room.
 // A last line with no line feed counts only where the text is the last.
 pub fn compose(text: &[u8], out: &mut [u8], last: bool) -> Progress
-    ensures { λ r. ⌜ Composed r (now (text .entry)) (now (out .exit)) ⌝ }
+    ensures { λ r. ⌜ Composed r last (now (text .entry)) (now (out .exit)) ⌝ }
 {
     let mut at = 0;
     let mut records = 0;
     let mut lines = 0;
     while at < text.len() && 24 <= out.len() - records * 24 {
-        let end = line_end(text, at);
+        let end = bytes::scan::find(text, at, text.len(), b'\n');
         if end == text.len() {
             if !last {
                 return Progress {

@@ -1,3 +1,5 @@
--- How choices are made, and the laws of words and records.
-pub mod Pick
-pub mod Laws
+-- The laws of words, of the bytes and texts of a line, and of records in the making.
+pub mod WordLaws
+pub mod ByteLaws
+pub mod RecordLaws
+pub mod LineLaws

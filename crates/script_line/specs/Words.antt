@@ -1,87 +1,78 @@
--- What the words of a line stand for: bytes in hexadecimal, numbers in decimal.
--- Codes of characters are in hexadecimal: 20 space, 09 tab, 2D minus, 30 to 39 digits, 41 A, 61 a.
-use Prim.Native.Nat.{ℕ, _+_, _-_, _*_, _≤_, _<_}
-use mathlib.Core.Path.{_≡_}
+-- The words of a line, and the numbers that they stand for: bytes in hexadecimal, numbers in decimal.
+-- Spaces and tabs stand between words, and a '#' starts a comment, which ends a word too.
+use Prim.Native.Nat.{ℕ, _+_, _-_, _*_}
+use Prim.Native.Char.{code}
 use mathlib.Core.Bool.{Bool, true, false}
 use mathlib.Core.List.{List, [], _∷_}
-use lib.ListN.{length, getD, drop}
-use lib.Dec.{eqb, ltb, leb}
+use lib.ListN.{length, take, drop, getD}
+use Rattle.lists.specs.Tests.{if_then_else_, _==_, _<?_, _≤?_}
+use Rattle.lists.specs.Lists.{run}
 use Rattle.script_line.specs.declared.Number.{Number}
 use Rattle.script_line.specs.declared.Number.the-variants.{Value, Bad}
-
--- the first where the test holds, else the second
-abbrev pub pick : {A : Type 0} → Bool → A → A → A
-pick true a b = a
-pick false a b = b
+use Rattle.script_line.specs.declared.Cause.the-variants.{BadNumber, LargeNumber, BadByte}
 
 -- a space or a tab
-abbrev pub spaceOf : ℕ → Bool
-spaceOf b = pick (eqb b 0x20) true (eqb b 0x09)
+unfoldable pub space? : ℕ → Bool
+space? b = if b == code " " then true else b == code "\t"
 
--- the place r lies from a place on and within the bytes
-pub record Within (from r : ℕ) (s : List ℕ) : Type 0 where
-  pub low : from ≤ r
-  pub high : r ≤ length s
+-- neither a space nor a tab, and no '#'
+unfoldable pub inWord? : ℕ → Bool
+inWord? b = if b == code "#" then false else if space? b then false else true
 
--- the value of a hexadecimal digit, or 16
+-- a word ends here
+unfoldable pub ended? : List ℕ → Bool
+ended? [] = true
+ended? (b ∷ s) = if b == code "#" then true else space? b
+
+-- what is left behind spaces and tabs: nothing where a comment starts
+unfoldable pub skipped : List ℕ → List ℕ
+skipped [] = []
+skipped (b ∷ s) = if b == code "#" then [] else if space? b then skipped s else b ∷ s
+
+-- the word that bytes start with
+unfoldable pub word : List ℕ → List ℕ
+word s = take (run inWord? s) s
+
+-- what is left behind that word
+unfoldable pub behind : List ℕ → List ℕ
+behind s = drop (run inWord? s) s
+
+-- the value of a hexadecimal digit of either case, or 16
 unfoldable pub nibbleOf : ℕ → ℕ
 nibbleOf b =
-    pick (ltb b 0x30) 16
-    (pick (leb b 0x39) (b - 0x30)
-    (pick (ltb b 0x41) 16
-    (pick (leb b 0x46) (b - 0x41 + 10)
-    (pick (ltb b 0x61) 16
-    (pick (leb b 0x66) (b - 0x61 + 10) 16)))))
+    if b <? code "0" then 16 else if b ≤? code "9" then b - code "0" else
+    if b <? code "A" then 16 else if b ≤? code "F" then b - code "A" + 10 else
+    if b <? code "a" then 16 else if b ≤? code "f" then b - code "a" + 10 else 16
 
--- the number, where there is one, is as P says
-abbrev pub Given : Number → (ℕ → Type 0) → Type 0
-Given (Value v) P = P v
-Given (Bad c) P = Unit
+-- the byte that a word of two hexadecimal digits gives
+unfoldable pub byteOf : List ℕ → Number
+byteOf s =
+    if length s == 2 then
+    if 16 ≤? nibbleOf (getD s 0 0) then Bad BadByte else
+    if 16 ≤? nibbleOf (getD s 1 0) then Bad BadByte else Value (nibbleOf (getD s 0 0) * 16 + nibbleOf (getD s 1 0))
+    else Bad BadByte
 
--- the word is two hexadecimal digits, and v is the byte that they give
-pub record Hex (s : List ℕ) (v : ℕ) : Type 0 where
-  pub two : length s ≡ 2
-  pub high : nibbleOf (getD s 0 0) < 16
-  pub low : nibbleOf (getD s 1 0) < 16
-  pub value : v ≡ nibbleOf (getD s 0 0) * 16 + nibbleOf (getD s 1 0)
+-- the number that v and the decimal digits behind it give, up to 65535
+unfoldable pub digitsFrom : ℕ → List ℕ → Number
+digitsFrom v [] = Value v
+digitsFrom v (b ∷ s) =
+    if b <? code "0" then Bad BadNumber else if code "9" <? b then Bad BadNumber else
+    if 65535 <? v * 10 + (b - code "0") then Bad LargeNumber else digitsFrom (v * 10 + (b - code "0")) s
 
-abbrev pub ByteOf : List ℕ → Number → Type 0
-ByteOf s r = Given r (Hex s)
+-- the number that a word of decimal digits gives
+unfoldable pub decimalOf : List ℕ → Number
+decimalOf s = if length s == 0 then Bad BadNumber else digitsFrom 0 s
 
--- the number that v and the decimal digits behind it give
-unfoldable pub valueFrom : ℕ → List ℕ → ℕ
-valueFrom v [] = v
-valueFrom v (b ∷ s) = valueFrom (v * 10 + (b - 0x30)) s
+-- the 16 bits of minus a number that is at most 32768
+unfoldable pub minus : Number → Number
+minus (Value v) = if 32768 <? v then Bad LargeNumber else if v == 0 then Value 0 else Value (65536 - v)
+minus (Bad c) = Bad c
 
--- the word is decimal digits, and v is the number that they give
-pub record Decimal (s : List ℕ) (v : ℕ) : Type 0 where
-  pub value : v ≡ valueFrom 0 s
-  pub small : v ≤ 65535
-  pub digits : (k : ℕ) → k < length s → (0x30 ≤ getD s k 0) × (getD s k 0 ≤ 0x39)
+-- the 16 bits of a number that is at most 32767
+unfoldable pub plus : Number → Number
+plus (Value v) = if 32767 <? v then Bad LargeNumber else Value v
+plus (Bad c) = Bad c
 
-abbrev pub DecimalOf : List ℕ → Number → Type 0
-DecimalOf s r = Given r (Decimal s)
-
--- the 16 bits of minus v
-abbrev pub minus : ℕ → ℕ
-minus v = pick (eqb v 0) 0 (65536 - v)
-
--- r is the 16 bits of minus the number n, which is at most 32768, or says why not
-abbrev pub Negative : Number → Number → Type 0
-Negative (Value v) r = Given r (λ w. (w ≡ minus v) × (v ≤ 32768) × (w < 65536))
-Negative (Bad c) r = r ≡ Bad c
-
--- r is the number n, which is at most 32767, or says why not
-abbrev pub Positive : Number → Number → Type 0
-Positive (Value v) r = Given r (λ w. (w ≡ v) × (v ≤ 32767))
-Positive (Bad c) r = r ≡ Bad c
-
--- the word is a number from -32768 to 32767, and v is its 16 bits
-pub record Signed (s : List ℕ) (v : ℕ) : Type 0 where
-  pub value : v ≡ pick (eqb (getD s 0 0) 0x2D) (minus (valueFrom 0 (drop 1 s))) (valueFrom 0 s)
-  pub small : v < 65536
-  pub low : getD s 0 0 ≡ 0x2D → valueFrom 0 (drop 1 s) ≤ 32768
-  pub high : (getD s 0 0 ≡ 0x2D → ⊥) → valueFrom 0 s ≤ 32767
-
-abbrev pub SignedOf : List ℕ → Number → Type 0
-SignedOf s r = Given r (Signed s)
+-- the 16 bits of the number, from -32768 to 32767, that a word of decimal digits, with or without a minus, gives
+unfoldable pub signedOf : List ℕ → Number
+signedOf s = if length s == 0 then Bad BadNumber else if getD s 0 0 == code "-" then minus (decimalOf (drop 1 s)) else plus (decimalOf s)

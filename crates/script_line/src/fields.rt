@@ -13,47 +13,51 @@ use crate::words::signed;
 use crate::words::word_end;
 use crate::words::word_start;
 ghost use mathlib.Core.Path.{_≡_};
+ghost use mathlib.Core.List.{[], _∷_, _++_};
 ghost use Prim.Native.Nat.{_+_, _≤_, _<_};
-ghost use lib.ListN.{length, getD};
-ghost use Rattle.script_line.specs.Records.{Free, Counted, Read, Placed, Fills, NamedAt};
+ghost use lib.ListN.{length, drop};
+ghost use Rattle.script_line.specs.Words.{skipped, behind, ended?};
+ghost use Rattle.script_line.specs.Lines.{between, inText, bytesFrom, bytesOf, argumentsOf, appletOf};
+ghost use Rattle.script_line.specs.Records.{Free, took, Counted, Gave, Read, NamedAt, WordAt, PlainAt, countIfLast};
 
 // One argument byte more, behind the first n.
 fn put(out: &mut [u8], n: usize, b: u8)
     requires { ⌜ Free n (now out) × (n < 20) ⌝ }
-    ensures { λ _. ⌜ Free (n + 1) (now (out .exit)) ⌝ }
+    ensures { λ _. ⌜ Free (n + 1) (now (out .exit)) × (took (n + 1) (now (out .exit)) ≡ took n (now (out .entry)) ++ b ∷ []) ⌝ }
 {
     out[3 + n] = b;
 }
 
-// What follows a closing quote is a space, a comment or nothing.
-fn closed(line: &[u8], at: usize, n: usize) -> Item
+// A space, a comment or nothing stands at a place.
+fn is_end(line: &[u8], at: usize) -> bool
     requires { ⌜ at ≤ length (now line) ⌝ }
-    ensures { λ r. ⌜ Read r (λ count next. (count ≡ n) × (next ≡ at)) ⌝ }
+    ensures { λ r. ⌜ r ≡ ended? (drop at (now (line .entry))) ⌝ }
 {
     if at == line.len() {
-        return Item::Next { count: n, next: at };
+        return true;
     }
     let b = line[at];
     if b == b'#' {
-        return Item::Next { count: n, next: at };
+        return true;
     }
-    if is_space(b) {
-        return Item::Next { count: n, next: at };
-    }
-    Item::Bad(Cause::MissingSpace)
+    is_space(b)
 }
 
 // The bytes of a text up to its closing quote.
 fn quoted(line: &[u8], from: usize, out: &mut [u8], n: usize, limit: usize) -> Item
     requires { ⌜ (from ≤ length (now line)) × Free n (now out) × (n ≤ limit) × (limit ≤ 20) ⌝ }
-    ensures { λ r. ⌜ Read r (Placed from limit (now (line .entry)) (now (out .exit))) ⌝ }
+    ensures { λ r. ⌜ Read (bytesFrom limit (took n (now (out .entry))) inText (drop from (now (line .entry)))) from limit (now (line .entry)) (now (out .exit)) r ⌝ }
 {
     let mut count = n;
     let mut at = from;
     while at < line.len() {
         let b = line[at];
         if b == b'"' {
-            return closed(line, at + 1, count);
+            let next = at + 1;
+            if is_end(line, next) {
+                return Item::Next { count, next };
+            }
+            return Item::Bad(Cause::MissingSpace);
         }
         if count == limit {
             return Item::Bad(Cause::ManyBytes);
@@ -67,8 +71,8 @@ fn quoted(line: &[u8], from: usize, out: &mut [u8], n: usize, limit: usize) -> I
 
 // A byte of two hexadecimal digits.
 fn plain(line: &[u8], at: usize, out: &mut [u8], n: usize, limit: usize) -> Item
-    requires { ⌜ (at ≤ length (now line)) × Free n (now out) × (n ≤ limit) × (limit ≤ 20) ⌝ }
-    ensures { λ r. ⌜ Read r (Placed at limit (now (line .entry)) (now (out .exit))) ⌝ }
+    requires { ⌜ PlainAt at (now line) × Free n (now out) × (n ≤ limit) × (limit ≤ 20) ⌝ }
+    ensures { λ r. ⌜ Read (bytesFrom limit (took n (now (out .entry))) between (drop at (now (line .entry)))) at limit (now (line .entry)) (now (out .exit)) r ⌝ }
 {
     let end = word_end(line, at);
     let found = byte(&line[at..end]);
@@ -89,8 +93,8 @@ fn plain(line: &[u8], at: usize, out: &mut [u8], n: usize, limit: usize) -> Item
 
 // One item of a line: a quoted text or a byte.
 fn item(line: &[u8], at: usize, out: &mut [u8], n: usize, limit: usize) -> Item
-    requires { ⌜ (at < length (now line)) × Free n (now out) × (n ≤ limit) × (limit ≤ 20) ⌝ }
-    ensures { λ r. ⌜ Read r (Placed at limit (now (line .entry)) (now (out .exit))) ⌝ }
+    requires { ⌜ WordAt at (now line) × Free n (now out) × (n ≤ limit) × (limit ≤ 20) ⌝ }
+    ensures { λ r. ⌜ Read (bytesFrom limit (took n (now (out .entry))) between (drop at (now (line .entry)))) at limit (now (line .entry)) (now (out .exit)) r ⌝ }
 {
     if line[at] == b'"' {
         return quoted(line, at + 1, out, n, limit);
@@ -101,7 +105,7 @@ fn item(line: &[u8], at: usize, out: &mut [u8], n: usize, limit: usize) -> Item
 // All items that are left of a line, at most `limit` bytes.
 pub fn bytes(line: &[u8], from: usize, out: &mut [u8], limit: usize) -> Count
     requires { ⌜ (from ≤ length (now line)) × Free 0 (now out) × (limit ≤ 20) ⌝ }
-    ensures { λ r. ⌜ Counted r (λ n. Free n (now (out .exit)) × (n ≤ limit)) ⌝ }
+    ensures { λ r. ⌜ Gave (bytesOf limit (drop from (now (line .entry)))) r (now (out .exit)) × Counted r (λ n. n ≤ limit) ⌝ }
 {
     let mut count = 0;
     let mut at = word_start(line, from);
@@ -118,13 +122,13 @@ pub fn bytes(line: &[u8], from: usize, out: &mut [u8], limit: usize) -> Count
     Count::Of(count)
 }
 
-// Nothing may be left of a line.
-pub fn nothing(line: &[u8], from: usize) -> Count
+// So many argument bytes, where nothing is left of a line.
+pub fn if_last(n: usize, line: &[u8], from: usize) -> Count
     requires { ⌜ from ≤ length (now line) ⌝ }
-    ensures { λ r. ⌜ Counted r (λ n. n ≡ 0) ⌝ }
+    ensures { λ r. ⌜ r ≡ countIfLast n (drop from (now (line .entry))) ⌝ }
 {
     if word_start(line, from) == line.len() {
-        return Count::Of(0);
+        return Count::Of(n);
     }
     Count::Bad(Cause::ExtraWord)
 }
@@ -132,7 +136,7 @@ pub fn nothing(line: &[u8], from: usize) -> Count
 // The twelve bytes of an install; those that are not written are 0.
 fn install(line: &[u8], from: usize, out: &mut [u8]) -> Count
     requires { ⌜ (from ≤ length (now line)) × Free 0 (now out) ⌝ }
-    ensures { λ r. ⌜ Counted r (λ n. Free n (now (out .exit)) × (n ≡ 12)) ⌝ }
+    ensures { λ r. ⌜ Gave (argumentsOf Kind.Install (drop from (now (line .entry)))) r (now (out .exit)) ⌝ }
 {
     let count = bytes(line, from, out, 12);
     match count {
@@ -144,7 +148,7 @@ fn install(line: &[u8], from: usize, out: &mut [u8]) -> Count
 // The help byte of an entry, 0 or 1, and its text.
 fn entry(line: &[u8], from: usize, out: &mut [u8]) -> Count
     requires { ⌜ (from ≤ length (now line)) × Free 0 (now out) ⌝ }
-    ensures { λ r. ⌜ Counted r (λ n. Free n (now (out .exit)) × Fills Kind.Entry n (getD (now (out .exit)) 3 0)) ⌝ }
+    ensures { λ r. ⌜ Gave (argumentsOf Kind.Entry (drop from (now (line .entry)))) r (now (out .exit)) ⌝ }
 {
     let count = bytes(line, from, out, 20);
     match count {
@@ -164,7 +168,7 @@ fn entry(line: &[u8], from: usize, out: &mut [u8]) -> Count
 // The two bytes of an event value, high first.
 fn event(line: &[u8], from: usize, out: &mut [u8]) -> Count
     requires { ⌜ (from ≤ length (now line)) × Free 0 (now out) ⌝ }
-    ensures { λ r. ⌜ Counted r (λ n. Free n (now (out .exit)) × (n ≡ 2)) ⌝ }
+    ensures { λ r. ⌜ Gave (argumentsOf Kind.Event (drop from (now (line .entry)))) r (now (out .exit)) ⌝ }
 {
     let at = word_start(line, from);
     if at == line.len() {
@@ -176,39 +180,29 @@ fn event(line: &[u8], from: usize, out: &mut [u8]) -> Count
         Number::Value(v) => {
             put(out, 0, (v / 256 % 256) as u8);
             put(out, 1, (v % 256) as u8);
-            two(nothing(line, end))
+            if_last(2, line, end)
         }
         Number::Bad(c) => Count::Bad(c),
-    }
-}
-
-// Two bytes stand where nothing was left of the line.
-fn two(left: Count) -> Count
-    ensures { λ r. ⌜ Counted r (λ n. n ≡ 2) ⌝ }
-{
-    match left {
-        Count::Of(_) => Count::Of(2),
-        Count::Bad(c) => Count::Bad(c),
     }
 }
 
 // The arguments that follow an applet's number.
 pub fn arguments(kind: Kind, line: &[u8], from: usize, out: &mut [u8]) -> Count
     requires { ⌜ (from ≤ length (now line)) × Free 0 (now out) ⌝ }
-    ensures { λ r. ⌜ Counted r (λ n. Free n (now (out .exit)) × Fills kind n (getD (now (out .exit)) 3 0)) ⌝ }
+    ensures { λ r. ⌜ Gave (argumentsOf kind (drop from (now (line .entry)))) r (now (out .exit)) ⌝ }
 {
     match kind {
         Kind::Install => install(line, from, out),
         Kind::Entry => entry(line, from, out),
         Kind::Event => event(line, from, out),
-        Kind::Nothing => nothing(line, from),
+        Kind::Nothing => if_last(0, line, from),
     }
 }
 
 // The applet's number that follows a letter.
 pub fn applet(line: &[u8], from: usize) -> Applet
     requires { ⌜ from ≤ length (now line) ⌝ }
-    ensures { λ r. ⌜ NamedAt r (λ next. next ≤ length (now (line .entry))) ⌝ }
+    ensures { λ r. ⌜ NamedAt (appletOf (drop from (now (line .entry)))) (behind (skipped (drop from (now (line .entry))))) (now (line .entry)) r ⌝ }
 {
     let at = word_start(line, from);
     if at == line.len() {

@@ -1,5 +1,5 @@
 // A line as a record of the floor program.
-// What a record that the floor program takes is, `Taken` says.
+// What a line means stands in specs/Lines.antt.
 use crate::Applet;
 use crate::Cause;
 use crate::Count;
@@ -9,13 +9,15 @@ use crate::Outcome;
 use crate::fields::applet;
 use crate::fields::arguments;
 use crate::fields::bytes;
-use crate::fields::nothing;
+use crate::fields::if_last;
 use crate::words::word_end;
 use crate::words::word_start;
 ghost use mathlib.Core.Path.{_≡_};
 ghost use Prim.Native.Nat.{_≤_};
-ghost use lib.ListN.{length};
-ghost use Rattle.script_line.specs.Records.{Free, Counted, Sure, Made, Sealed, Taken, formOf};
+ghost use lib.ListN.{length, drop};
+ghost use Rattle.script_line.specs.Words.{skipped, behind};
+ghost use Rattle.script_line.specs.Lines.{formOf, recordOf, appletOf, namedBy, meaningOf};
+ghost use Rattle.script_line.specs.Records.{Free, took, Counted, Finished, heard};
 
 // What follows a letter.
 fn form(letter: u8) -> Form
@@ -54,7 +56,7 @@ fn clear(out: &mut [u8])
 // The letter, the applet and the count of a record whose arguments stand.
 fn seal(n: usize, letter: u8, applet: u8, out: &mut [u8])
     requires { ⌜ Free n (now out) ⌝ }
-    ensures { λ _. ⌜ Sealed letter applet n (now (out .entry)) (now (out .exit)) ⌝ }
+    ensures { λ _. ⌜ now (out .exit) ≡ recordOf letter applet (took n (now (out .entry))) ⌝ }
 {
     out[0] = letter;
     out[1] = applet;
@@ -64,7 +66,7 @@ fn seal(n: usize, letter: u8, applet: u8, out: &mut [u8])
 // The record that the arguments, where they are good, make.
 fn finish(count: Count, letter: u8, applet: u8, out: &mut [u8]) -> Outcome
     requires { ⌜ Counted count (λ n. Free n (now out)) ⌝ }
-    ensures { λ r. ⌜ Made r (Sure count (λ n. Sealed letter applet n (now (out .entry)) (now (out .exit)))) ⌝ }
+    ensures { λ r. ⌜ Finished count letter applet (now (out .entry)) (now (out .exit)) r ⌝ }
 {
     match count {
         Count::Of(n) => {
@@ -77,8 +79,8 @@ fn finish(count: Count, letter: u8, applet: u8, out: &mut [u8]) -> Outcome
 
 // A line whose letter takes an applet.
 fn named(kind: Kind, letter: u8, line: &[u8], from: usize, out: &mut [u8]) -> Outcome
-    requires { ⌜ (Form.Applet kind ≡ formOf letter) × (from ≤ length (now line)) × Free 0 (now out) ⌝ }
-    ensures { λ r. ⌜ Made r (Taken (now (out .exit))) ⌝ }
+    requires { ⌜ (from ≤ length (now line)) × Free 0 (now out) ⌝ }
+    ensures { λ r. ⌜ heard r (now (out .exit)) ≡ namedBy kind letter (appletOf (drop from (now (line .entry)))) (behind (skipped (drop from (now (line .entry))))) ⌝ }
 {
     let found = applet(line, from);
     match found {
@@ -96,7 +98,7 @@ fn named(kind: Kind, letter: u8, line: &[u8], from: usize, out: &mut [u8]) -> Ou
 // The record that a line gives, into 24 bytes.
 pub fn record(line: &[u8], out: &mut [u8]) -> Outcome
     requires { ⌜ length (now out) ≡ 24 ⌝ }
-    ensures { λ r. ⌜ Made r (Taken (now (out .exit))) ⌝ }
+    ensures { λ r. ⌜ heard r (now (out .exit)) ≡ meaningOf (now (line .entry)) ⌝ }
 {
     let from = word_start(line, 0);
     if from == line.len() {
@@ -116,7 +118,7 @@ pub fn record(line: &[u8], out: &mut [u8]) -> Outcome
             finish(count, letter, 0, out)
         }
         Form::Alone => {
-            let count = nothing(line, to);
+            let count = if_last(0, line, to);
             finish(count, letter, 0, out)
         }
         Form::Unknown => Outcome::Bad(Cause::UnknownLetter),

@@ -3,13 +3,15 @@
 use crate::Cause;
 use crate::Number;
 ghost use mathlib.Core.Path.{_≡_};
-ghost use Prim.Native.Nat.{_≤_};
-ghost use lib.ListN.{length};
-ghost use Rattle.script_line.specs.Words.{spaceOf, nibbleOf, ByteOf, DecimalOf, Negative, Positive, SignedOf, Within};
+ghost use Prim.Native.Nat.{_+_, _≤_};
+ghost use lib.ListN.{length, drop};
+ghost use Rattle.lists.specs.Lists.{run};
+ghost use Rattle.script_line.specs.Words.{space?, inWord?, nibbleOf, byteOf, decimalOf, minus, plus, signedOf};
+ghost use Rattle.script_line.specs.Records.{Starts};
 
 // Whether a byte stands between words.
 pub fn is_space(b: u8) -> bool
-    ensures { λ r. ⌜ r ≡ spaceOf b ⌝ }
+    ensures { λ r. ⌜ r ≡ space? b ⌝ }
 {
     if b == b' ' {
         return true;
@@ -20,7 +22,7 @@ pub fn is_space(b: u8) -> bool
 // Where the next word starts, or the line's length where only a comment or nothing is left.
 pub fn word_start(line: &[u8], from: usize) -> usize
     requires { ⌜ from ≤ length (now line) ⌝ }
-    ensures { λ r. ⌜ Within from r (now (line .entry)) ⌝ }
+    ensures { λ r. ⌜ Starts from r (now (line .entry)) ⌝ }
 {
     let mut at = from;
     while at < line.len() {
@@ -39,7 +41,7 @@ pub fn word_start(line: &[u8], from: usize) -> usize
 // Where the word that starts here ends.
 pub fn word_end(line: &[u8], from: usize) -> usize
     requires { ⌜ from ≤ length (now line) ⌝ }
-    ensures { λ r. ⌜ Within from r (now (line .entry)) ⌝ }
+    ensures { λ r. ⌜ (r ≡ from + run inWord? (drop from (now (line .entry)))) × (r ≤ length (now (line .entry))) ⌝ }
 {
     let mut at = from;
     while at < line.len() {
@@ -82,7 +84,7 @@ pub fn nibble(b: u8) -> u8
 
 // The byte that two hexadecimal digits give.
 pub fn byte(word: &[u8]) -> Number
-    ensures { λ r. ⌜ ByteOf (now (word .entry)) r ⌝ }
+    ensures { λ r. ⌜ r ≡ byteOf (now (word .entry)) ⌝ }
 {
     if word.len() != 2 {
         return Number::Bad(Cause::BadByte);
@@ -100,7 +102,7 @@ pub fn byte(word: &[u8]) -> Number
 
 // The number that decimal digits give, up to 65535.
 pub fn decimal(word: &[u8]) -> Number
-    ensures { λ r. ⌜ DecimalOf (now (word .entry)) r ⌝ }
+    ensures { λ r. ⌜ r ≡ decimalOf (now (word .entry)) ⌝ }
 {
     if word.len() == 0 {
         return Number::Bad(Cause::BadNumber);
@@ -126,7 +128,7 @@ pub fn decimal(word: &[u8]) -> Number
 
 // The 16 bits of a number that a minus stands before.
 pub fn negative(n: Number) -> Number
-    ensures { λ r. ⌜ Negative n r ⌝ }
+    ensures { λ r. ⌜ r ≡ minus n ⌝ }
 {
     match n {
         Number::Value(v) => {
@@ -144,7 +146,7 @@ pub fn negative(n: Number) -> Number
 
 // The 16 bits of a number that no minus stands before.
 pub fn positive(n: Number) -> Number
-    ensures { λ r. ⌜ Positive n r ⌝ }
+    ensures { λ r. ⌜ r ≡ plus n ⌝ }
 {
     match n {
         Number::Value(v) => {
@@ -159,7 +161,7 @@ pub fn positive(n: Number) -> Number
 
 // The 16 bits of a signed decimal number from -32768 to 32767.
 pub fn signed(word: &[u8]) -> Number
-    ensures { λ r. ⌜ SignedOf (now (word .entry)) r ⌝ }
+    ensures { λ r. ⌜ r ≡ signedOf (now (word .entry)) ⌝ }
 {
     if word.len() == 0 {
         return Number::Bad(Cause::BadNumber);

@@ -66,7 +66,7 @@ slice-reshare-prefix-write-all : tie.Need-slice-reshare-prefix-write-all
 slice-reshare-prefix-write-all c = search needs
 
 slice-aggregate-write-all-2 : tie.Need-slice-aggregate-write-all-2
-slice-aggregate-write-all-2 c = sym (length-take-le _ _ (c .before .before .before .before .compose .ensures .fits))
+slice-aggregate-write-all-2 c = sym (length-take-le _ _ (c .before .before .before .before .compose .ensures .0 .fits))
 
 write-all-requires-2 : tie.Need-write-all-requires-2
 write-all-requires-2 c κs = search needs
@@ -84,7 +84,7 @@ returns-2 : tie.Need-returns-2
 returns-2 c = search needs
 
 keep-requires : tie.Need-keep-requires
-keep-requires c κs = (le-trans (simp length-take at (c .before .before .before .before .before .before .before .compose .ensures .read)) (min-le-left _ _), search needs)
+keep-requires c κs = (le-trans (simp length-take at (c .before .before .before .before .before .before .before .compose .ensures .0 .read)) (min-le-left _ _), search needs)
 
 wrapping-add-u64-requires : tie.Need-wrapping-add-u64-requires
 wrapping-add-u64-requires c κs = search needs

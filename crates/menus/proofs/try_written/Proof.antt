@@ -14,8 +14,8 @@ abbrev μ-loop : tie.MeasureT-loop
 loop-holds : tie.Need-loop-holds Inv-loop μ-loop
 loop-holds c = search needs
 
-line-end-requires : tie.Need-line-end-requires Inv-loop μ-loop
-line-end-requires c κs = search needs
+find-requires : tie.Need-find-requires Inv-loop μ-loop
+find-requires c κs = search needs
 
 add-past : tie.Need-add-past Inv-loop μ-loop
 add-past c = search needs
@@ -75,7 +75,7 @@ try-written-spec =
     Inv-loop
     μ-loop
     loop-holds
-    line-end-requires
+    find-requires
     add-past
     past-requires
     returns

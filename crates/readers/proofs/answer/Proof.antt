@@ -6,8 +6,8 @@ use borrow.Author.Needs.{needs}
 use Rattle.readers.proofs.answer.Statement.{statement}
 use Rattle.readers.proofs.answer.Tie as tie
 
-end-of-requires : tie.Need-end-of-requires
-end-of-requires c κs = search needs
+find-requires : tie.Need-find-requires
+find-requires c κs = search needs
 
 sub-if1 : tie.Need-sub-if1
 sub-if1 c = search needs
@@ -67,7 +67,7 @@ pub answer-spec : {M : Type 1} → statement M
 answer-spec =
     tie.close
     (tie.spec
-    end-of-requires
+    find-requires
     sub-if1
     returns
     add-letter

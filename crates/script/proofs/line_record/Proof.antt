@@ -2,12 +2,16 @@
 -- Assumes nothing.
 use mathlib.Core.Path.{sym}
 use lib.Seq.{length-take-le}
+use Rattle.lists.proofs.Picks.{picks}
+use Rattle.script.specs.Texts.{lineMeaning}
+use Rattle.script.proofs.Blocks.{short-line}
 use borrow.Author.Needs.{needs}
 use Rattle.script.proofs.line_record.Statement.{statement}
 use Rattle.script.proofs.line_record.Tie as tie
 
 returns : tie.Need-returns
-returns c = search needs
+unfolding lineMeaning
+returns c = search (picks, needs)
 
 trimmed-requires : tie.Need-trimmed-requires
 trimmed-requires c κs = search needs
@@ -22,7 +26,7 @@ same-length : tie.Need-same-length
 same-length c = search needs
 
 returns-2 : tie.Need-returns-2
-returns-2 c = search needs
+returns-2 c = search (short-line, needs)
 
 pub line-record-spec : {M : Type 1} → statement M
 line-record-spec =

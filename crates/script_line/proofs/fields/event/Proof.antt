@@ -1,6 +1,12 @@
 -- `script_line::fields::event` meets its contract.
 -- Assumes nothing.
-use Rattle.script_line.proofs.Laws.{counted-known}
+use Prim.Native.Nat.{_/_, _%_}
+use mathlib.Core.Path.{_≡_, ap, _∙_}
+use mathlib.Core.List.{[], _∷_, _++_}
+use Rattle.script_line.specs.Words.{signedOf}
+use Rattle.script_line.specs.Records.{took}
+use Rattle.script_line.proofs.RecordLaws.{last-gave}
+use Rattle.script_line.proofs.LineLaws.{at-word, event-none, event-is, event-bad, gave-by, two-bytes}
 use borrow.Author.Needs.{needs}
 use Rattle.script_line.proofs.fields.event.Statement.{statement}
 use Rattle.script_line.proofs.fields.event.Tie as tie
@@ -9,7 +15,7 @@ word-start-requires : tie.Need-word-start-requires
 word-start-requires c κs = search needs
 
 returns : tie.Need-returns
-returns c = search needs
+returns c = event-none (c .before .before .before .before .args .line .now) (c .before .word-start .ensures) (c .if1 .taken)
 
 word-end-requires : tie.Need-word-end-requires
 word-end-requires c κs = search needs
@@ -41,11 +47,8 @@ cast-put-2 c = search needs
 put-requires-2 : tie.Need-put-requires-2
 put-requires-2 c κs = search needs
 
-nothing-requires : tie.Need-nothing-requires
-nothing-requires c κs = search needs
-
-two-requires : tie.Need-two-requires
-two-requires c κs = search needs
+if-last-requires : tie.Need-if-last-requires
+if-last-requires c κs = search needs
 
 enum-known-value-2 : tie.Need-enum-known-value-2
 enum-known-value-2 c = search needs
@@ -54,10 +57,22 @@ same-length : tie.Need-same-length
 same-length c = search needs
 
 returns-2 : tie.Need-returns-2
-returns-2 c = counted-known 2 _ (c .two .result) (c .before .before .before .before .put2 .ensures) (c .two .ensures)
+returns-2 c =
+    let line = c .before .before .before .before .before .before .before .before .before .before .before .before .before .before .before .before .before .before .before .args .line .now in
+    let e = c .before .before .before .before .before .before .before .before .before .before .before .before .before .before .word-end .ensures in
+    let g = c .before .before .before .before .before .before .before .before .before .before .before .before .before .before .before .before .word-start in
+    let p = c .before .before .before .put2 in
+    let n = at-word signedOf line (g .result) (e .0) (c .before .before .before .before .before .before .before .before .before .before .before .before .signed .ensures) (c .before .before .before .before .before .before .before .before .before .before .value .given .1) in
+    gave-by (c .if-last .result) (p .last .0)
+    (event-is line (g .ensures) (c .before .before .before .before .before .before .before .before .before .before .before .before .before .before .before .if1 .left) n (e .0) (two-bytes (p .ensures .1) (c .before .before .before .before .before .before .before .put .ensures .1)))
+    (last-gave (p .last .0) _ (c .if-last .ensures) (p .ensures .0))
 
 returns-3 : tie.Need-returns-3
-returns-3 c = search needs
+returns-3 c =
+    let line = c .before .before .before .before .before .before .before .before .before .before .args .line .now in
+    let g = c .before .before .before .before .before .before .before .word-start in
+    let n = at-word signedOf line (g .result) (c .before .before .before .before .before .word-end .ensures .0) (c .before .before .before .signed .ensures) (c .before .value2 .given .1) in
+    event-bad line (g .ensures) (c .before .before .before .before .before .before .if1 .left) n
 
 pub event-spec : {M : Type 1} → statement M
 event-spec =
@@ -75,8 +90,7 @@ event-spec =
     put-requires
     cast-put-2
     put-requires-2
-    nothing-requires
-    two-requires
+    if-last-requires
     enum-known-value-2
     same-length
     returns-2

@@ -1,8 +1,12 @@
 -- `script_line::fields::install` meets its contract.
 -- Assumes nothing.
-use Rattle.script_line.proofs.Laws.{counted-at, free-more}
-use mathlib.Core.Path.{refl}
-use native.Mathlib.Omega.{arith}
+use mathlib.Core.Path.{ap}
+use Rattle.script_line.specs.Lines.{installed, argumentsOf, bytesOf}
+use lib.ListN.{drop}
+use Rattle.script_line.proofs.RecordLaws.{counted-at, install-gave}
+use Rattle.script_line.proofs.LineLaws.{gave-at, gave-bad}
+-- `script_line::fields::install` meets its contract.
+-- Assumes nothing.
 use borrow.Author.Needs.{needs}
 use Rattle.script_line.proofs.fields.install.Statement.{statement}
 use Rattle.script_line.proofs.fields.install.Tie as tie
@@ -20,15 +24,21 @@ same-length : tie.Need-same-length
 same-length c = search needs
 
 returns : tie.Need-returns
+unfolding argumentsOf
 returns c =
-    let p = counted-at _ (c .before .before .before .before .before .bytes .ensures) (c .before .count .given .1) in
-    (free-more (p .1) (omega arith) (p .0), refl)
+    let b = c .before .before .before .before .before .bytes in
+    let a = c .before .before .before .before .before .before .before .before .before .args in
+    install-gave (gave-at (bytesOf 12 (drop (a .from) (a .line .now))) (b .last .1 .1 .0) (b .ensures .0) (c .before .count .given .1)) (counted-at _ (b .ensures .1) (c .before .count .given .1))
 
 same-length-2 : tie.Need-same-length-2
 same-length-2 c = search needs
 
 returns-2 : tie.Need-returns-2
-returns-2 c = search needs
+unfolding argumentsOf installed
+returns-2 c =
+    let b = c .before .before .before .before .before .bytes in
+    let a = c .before .before .before .before .before .before .before .before .before .args in
+    ap installed (gave-bad (bytesOf 12 (drop (a .from) (a .line .now))) (b .last .1 .1 .0) (b .ensures .0) (c .before .count2 .given .1))
 
 pub install-spec : {M : Type 1} → statement M
 install-spec =

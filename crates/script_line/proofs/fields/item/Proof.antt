@@ -1,6 +1,8 @@
 -- `script_line::fields::item` meets its contract.
 -- Assumes nothing.
-use Rattle.script_line.proofs.Laws.{placed-next}
+use Rattle.script_line.specs.Records.{took}
+use Rattle.script_line.proofs.LineLaws.{read-earlier}
+use Rattle.script_line.proofs.ByteLaws.{text-starts}
 use borrow.Author.Needs.{needs}
 use Rattle.script_line.proofs.fields.item.Statement.{statement}
 use Rattle.script_line.proofs.fields.item.Tie as tie
@@ -20,11 +22,14 @@ same-length c = search needs
 returns : tie.Need-returns
 returns c =
     let q = c .before .before .quoted in
-    let s = c .before .before .before .before .before .before .before .before .args in
-    placed-next (s .at) (s .limit) (s .line .now) (q .last .1 .1 .0) (q .result) (q .ensures)
+    let s = c .before .before .before .before .before .before .before .before in
+    read-earlier (s .args .at) (s .args .limit) (s .args .line .now) (q .last .1 .1 .0) (q .result)
+    (text-starts (s .args .limit) (took (s .args .n) (s .args .out .now)) (s .args .line .now) (s .pre .0 .within) (c .before .before .before .before .if1 .taken)) (q .ensures)
 
 plain-requires : tie.Need-plain-requires
-plain-requires c κs = search needs
+plain-requires c κs =
+    let s = c .before .before .before .before .before in
+    (record { word-at = s .pre .0; unquoted = c .before .if1 .left }, search needs, search needs, search needs)
 
 same-length-2 : tie.Need-same-length-2
 same-length-2 c = search needs

@@ -1,6 +1,12 @@
 -- `script_line::fields::plain` meets its contract.
 -- Assumes nothing.
-use Rattle.script_line.proofs.Laws.{hex-past}
+use native.Mathlib.Omega.{arith}
+use mathlib.Core.Path.{sym, _∙_}
+use Rattle.script_line.specs.Words.{byteOf}
+use Rattle.script_line.specs.Records.{took}
+use Rattle.script_line.proofs.WordLaws.{run-more}
+use Rattle.script_line.proofs.LineLaws.{at-word}
+use Rattle.script_line.proofs.ByteLaws.{plain-full, plain-on, plain-bad}
 use borrow.Author.Needs.{needs}
 use Rattle.script_line.proofs.fields.plain.Statement.{statement}
 use Rattle.script_line.proofs.fields.plain.Tie as tie
@@ -24,7 +30,10 @@ enum-known-found : tie.Need-enum-known-found
 enum-known-found c = search needs
 
 returns : tie.Need-returns
-returns c = search needs
+returns c =
+    let s = c .before .before .before .before .before .before .before .before .before in
+    let v = at-word byteOf (s .args .line .now) (s .args .at) (c .before .before .before .before .before .before .word-end .ensures .0) (c .before .before .before .before .byte .ensures) (c .before .before .found .given .1) in
+    plain-full (s .args .limit) (took (s .args .n) (s .args .out .now)) (s .args .line .now) (s .pre .0) v (s .pre .1 .counted ∙ c .if1 .taken)
 
 cast-put : tie.Need-cast-put
 cast-put c = search needs
@@ -42,10 +51,24 @@ same-length : tie.Need-same-length
 same-length c = search needs
 
 returns-2 : tie.Need-returns-2
-returns-2 c = record { free = search needs; few = search needs; past = hex-past _ (c .before .before .before .before .before .before .before .before .byte .ensures) (c .before .before .before .before .before .before .found .given .1); within = search needs }
+returns-2 c =
+    let s = c .before .before .before .before .before .before .before .before .before .before .before .before .before in
+    let e = c .before .before .before .before .before .before .before .before .before .before .word-end .ensures in
+    let v = at-word byteOf (s .args .line .now) (s .args .at) (e .0) (c .before .before .before .before .before .before .before .before .byte .ensures) (c .before .before .before .before .before .before .found .given .1) in
+    let w = s .pre .0 .word-at in
+    record {
+      free = c .before .before .put .ensures .0;
+      few = search needs;
+      past = omega (arith, e .0, run-more (s .args .line .now) (w .within) (w .starts));
+      within = e .1;
+      on = plain-on (s .args .limit) (took (s .args .n) (s .args .out .now)) (s .args .line .now) (s .pre .0) v (λ k. c .before .before .before .before .if1 .left (sym (s .pre .1 .counted) ∙ k)) (e .0) (c .before .before .put .ensures .1);
+    }
 
 returns-3 : tie.Need-returns-3
-returns-3 c = search needs
+returns-3 c =
+    let s = c .before .before .before .before .before .before .before .before in
+    let v = at-word byteOf (s .args .line .now) (s .args .at) (c .before .before .before .before .before .word-end .ensures .0) (c .before .before .before .byte .ensures) (c .before .found2 .given .1) in
+    plain-bad (s .args .limit) (took (s .args .n) (s .args .out .now)) (s .args .line .now) (s .pre .0) v
 
 pub plain-spec : {M : Type 1} → statement M
 plain-spec =

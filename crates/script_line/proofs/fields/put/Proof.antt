@@ -1,6 +1,6 @@
 -- `script_line::fields::put` meets its contract.
 -- Assumes nothing.
-use Rattle.script_line.proofs.Laws.{free-put}
+use Rattle.script_line.proofs.RecordLaws.{free-put}
 use borrow.Author.Needs.{needs}
 use Rattle.script_line.proofs.fields.put.Statement.{statement}
 use Rattle.script_line.proofs.fields.put.Tie as tie

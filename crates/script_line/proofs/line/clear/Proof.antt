@@ -1,7 +1,7 @@
 -- `script_line::line::clear` meets its contract: the invariant: the first i places are 0; the measure is what is left of the 24.
 -- Assumes nothing.
 use Prim.Native.Nat.{_-_}
-use Rattle.script_line.proofs.Laws.{Zeros, zeros-more, zeros-free}
+use Rattle.script_line.proofs.RecordLaws.{Zeros, zeros-more, zeros-free}
 use borrow.Author.Needs.{needs}
 use Rattle.script_line.proofs.line.clear.Statement.{statement}
 use Rattle.script_line.proofs.line.clear.Tie as tie

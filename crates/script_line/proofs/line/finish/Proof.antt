@@ -1,6 +1,6 @@
 -- `script_line::line::finish` meets its contract.
 -- Assumes nothing.
-use Rattle.script_line.proofs.Laws.{sure, counted-at}
+use Rattle.script_line.proofs.RecordLaws.{counted-at, finished-of, finished-bad}
 use borrow.Author.Needs.{needs}
 use Rattle.script_line.proofs.line.finish.Statement.{statement}
 use Rattle.script_line.proofs.line.finish.Tie as tie
@@ -18,10 +18,10 @@ same-length : tie.Need-same-length
 same-length c = search needs
 
 returns : tie.Need-returns
-returns c = sure _ (c .before .before .before .before .before .count .given .1) (c .before .before .seal .ensures)
+returns c = finished-of _ _ _ _ (c .before .before .before .before .before .count .given .1) (c .before .before .seal .ensures)
 
 returns-2 : tie.Need-returns-2
-returns-2 c = search needs
+returns-2 c = search (finished-bad, needs)
 
 pub finish-spec : {M : Type 1} → statement M
 finish-spec =

@@ -1,8 +1,9 @@
 -- `script_line::line::form` meets its contract.
 -- Assumes nothing.
 use borrow.Author.Needs.{needs}
-use Rattle.script_line.proofs.Pick.{picks, by-number}
-use Rattle.script_line.specs.Records.{formOf}
+use Rattle.lists.proofs.Picks.{picks}
+use Rattle.script_line.proofs.WordLaws.{by-number}
+use Rattle.script_line.specs.Lines.{formOf}
 use Rattle.script_line.proofs.line.form.Statement.{statement}
 use Rattle.script_line.proofs.line.form.Tie as tie
 

@@ -1,8 +1,13 @@
 -- `script_line::line::named` meets its contract.
 -- Assumes nothing.
-use lib.ListN.{getD}
-use Rattle.script_line.specs.Records.{Fills}
-use Rattle.script_line.proofs.Laws.{named-at, counted-free, made-taken, suits-named}
+use mathlib.Core.Path.{_∙_}
+use lib.ListN.{drop}
+use Rattle.script_line.specs.Words.{skipped, behind}
+use Rattle.script_line.specs.Lines.{appletOf, argumentsOf}
+use Rattle.script_line.proofs.RecordLaws.{gave-free, heard-finished}
+use Rattle.script_line.proofs.LineLaws.{named-at, named-not, named-is, named-bad}
+-- `script_line::line::named` meets its contract.
+-- Assumes nothing.
 use borrow.Author.Needs.{needs}
 use Rattle.script_line.proofs.line.named.Statement.{statement}
 use Rattle.script_line.proofs.line.named.Tie as tie
@@ -14,13 +19,15 @@ enum-known-found : tie.Need-enum-known-found
 enum-known-found c = search needs
 
 arguments-requires : tie.Need-arguments-requires
-arguments-requires c κs = (named-at _ (c .before .before .before .before .applet .ensures) (c .before .before .found .given .1), search needs)
+arguments-requires c κs =
+    let s = c .before .before .before .before .before .before .before .args in
+    let t = drop (s .from) (s .line .now) in
+    (named-at (appletOf t) (behind (skipped t)) (s .line .now) (c .before .before .before .before .applet .ensures) (c .before .before .found .given .1) .1, search needs)
 
 finish-requires : tie.Need-finish-requires
 finish-requires c κs =
     let a = c .before .before .before .arguments in
-    let s = c .before .before .before .before .before .before .before .before .before .before .before .args in
-    counted-free (a .last .1 .1 .1 .0) (λ n. Fills (s .kind) n (getD (a .last .1 .1 .1 .0) 3 0)) (a .result) (a .ensures)
+    gave-free _ (a .result) (a .last .1 .1 .1 .0) (a .ensures)
 
 enum-known-found-2 : tie.Need-enum-known-found-2
 enum-known-found-2 c = search needs
@@ -32,13 +39,17 @@ returns : tie.Need-returns
 returns c =
     let f = c .before .before .finish in
     let a = c .before .before .before .before .before .before .arguments in
-    let number = c .before .before .before .before .before .before .before .before .before .found .given .0 .0 in
-    let s = c .before .before .before .before .before .before .before .before .before .before .before .before .before .before in
-    made-taken (s .args .letter) number (a .last .1 .1 .1 .0) (f .last .1 .1 .1 .0) (f .result) (a .result)
-    (suits-named (s .args .letter) number (a .last .1 .1 .1 .0) (a .result) (s .pre .0) (a .ensures)) (f .ensures)
+    let s = c .before .before .before .before .before .before .before .before .before .before .before .before .before .before .args in
+    let t = drop (s .from) (s .line .now) in
+    let n = named-at (appletOf t) (behind (skipped t)) (s .line .now) (c .before .before .before .before .before .before .before .before .before .before .before .applet .ensures) (c .before .before .before .before .before .before .before .before .before .found .given .1) in
+    heard-finished _ (f .result) (a .result) (s .letter) _ (a .last .1 .1 .1 .0) (f .last .1 .1 .1 .0) (a .ensures) (f .ensures)
+    ∙ named-is (s .kind) (s .letter) (n .0) (n .2)
 
 returns-2 : tie.Need-returns-2
-returns-2 c = search needs
+returns-2 c =
+    let s = c .before .before .before .before .before .before .args in
+    let t = drop (s .from) (s .line .now) in
+    named-bad (s .kind) (s .letter) (behind (skipped t)) (named-not (appletOf t) (behind (skipped t)) (s .line .now) (c .before .before .before .applet .ensures) (c .before .found2 .given .1))
 
 pub named-spec : {M : Type 1} → statement M
 named-spec =

@@ -1,6 +1,6 @@
 -- `script_line::line::seal` meets its contract.
 -- Assumes nothing.
-use Rattle.script_line.proofs.Laws.{sealed}
+use Rattle.script_line.proofs.RecordLaws.{sealed}
 use borrow.Author.Needs.{needs}
 use Rattle.script_line.proofs.line.seal.Statement.{statement}
 use Rattle.script_line.proofs.line.seal.Tie as tie

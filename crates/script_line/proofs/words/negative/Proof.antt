@@ -1,7 +1,7 @@
 -- `script_line::words::negative` meets its contract.
 -- Assumes nothing.
-use Rattle.script_line.proofs.Pick.{picks}
-use Rattle.script_line.proofs.Laws.{negative-some, negative-large, negative-none, minus-small}
+use Rattle.lists.proofs.Picks.{picks, by-case}
+use Rattle.script_line.specs.Words.{minus}
 use borrow.Author.Needs.{needs}
 use Rattle.script_line.proofs.words.negative.Statement.{statement}
 use Rattle.script_line.proofs.words.negative.Tie as tie
@@ -10,10 +10,12 @@ enum-known-n : tie.Need-enum-known-n
 enum-known-n c = search needs
 
 returns : tie.Need-returns
-returns c = search (negative-some, negative-large, negative-none, minus-small, picks, needs) depth 8
+unfolding minus
+returns c = search (picks, by-case minus, needs) depth 8
 
 returns-2 : tie.Need-returns-2
-returns-2 c = search (negative-some, negative-large, negative-none, minus-small, picks, needs) depth 8
+unfolding minus
+returns-2 c = search (picks, by-case minus, needs) depth 8
 
 sub-t7 : tie.Need-sub-t7
 sub-t7 c = search needs
@@ -22,10 +24,12 @@ enum-known-n-2 : tie.Need-enum-known-n-2
 enum-known-n-2 c = search needs
 
 returns-3 : tie.Need-returns-3
-returns-3 c = search (negative-some, negative-large, negative-none, minus-small, picks, needs) depth 8
+unfolding minus
+returns-3 c = search (picks, by-case minus, needs) depth 8
 
 returns-4 : tie.Need-returns-4
-returns-4 c = search (negative-some, negative-large, negative-none, minus-small, picks, needs) depth 8
+unfolding minus
+returns-4 c = search (picks, by-case minus, needs) depth 8
 
 pub negative-spec : {M : Type 1} → statement M
 negative-spec =

@@ -1,6 +1,6 @@
 -- `script_line::words::nibble` meets its contract.
 -- Assumes nothing.
-use Rattle.script_line.proofs.Pick.{picks}
+use Rattle.lists.proofs.Picks.{picks}
 use Rattle.script_line.specs.Words.{nibbleOf}
 use borrow.Author.Needs.{needs}
 use Rattle.script_line.proofs.words.nibble.Statement.{statement}

@@ -1,14 +1,18 @@
--- `script_line::words::word_end` meets its contract: the invariant: the place is within the line; the measure is what is left of it.
+-- `script_line::words::word_end` meets its contract.
 -- Assumes nothing.
-use Prim.Native.Nat.{_-_}
-use lib.ListN.{length}
-use Rattle.script_line.specs.Words.{Within}
+use Prim.Native.Nat.{_+_, _-_, _≤_}
+use native.Mathlib.Omega.{arith}
+use mathlib.Core.Path.{_≡_, sym, _∙_}
+use lib.ListN.{length, drop}
+use Rattle.lists.specs.Lists.{run}
+use Rattle.script_line.specs.Words.{inWord?}
+use Rattle.script_line.proofs.WordLaws.{run-more, run-stop, run-end, in-word-hash, in-word-yes, in-word-no}
 use borrow.Author.Needs.{needs}
 use Rattle.script_line.proofs.words.word_end.Statement.{statement}
 use Rattle.script_line.proofs.words.word_end.Tie as tie
 
 abbrev Inv-loop : tie.InvT-loop
-Inv-loop line from at₀ at = Within from at line
+Inv-loop line from at₀ at = (at ≤ length line) × (at + run inWord? (drop at line) ≡ from + run inWord? (drop from line))
 
 abbrev μ-loop : tie.MeasureT-loop
 μ-loop line from at₀ at = length line - at
@@ -20,13 +24,19 @@ shared-slice-read-b : tie.Need-shared-slice-read-b Inv-loop μ-loop
 shared-slice-read-b c = search needs
 
 returns : tie.Need-returns Inv-loop μ-loop
-returns c = search needs
+returns c =
+    let l = c .before .before .before in
+    let s = l .before .before .args .line .now in
+    (omega (arith, l .loop .inv .1, run-stop s {at = l .loop .at} (search needs) (in-word-hash _ (c .if1 .taken))), search needs)
 
 is-space-requires : tie.Need-is-space-requires Inv-loop μ-loop
 is-space-requires c κs = search needs
 
 returns-2 : tie.Need-returns-2 Inv-loop μ-loop
-returns-2 c = search needs
+returns-2 c =
+    let l = c .before .before .before .before .before in
+    let s = l .before .before .args .line .now in
+    (omega (arith, l .loop .inv .1, run-stop s {at = l .loop .at} (search needs) (in-word-no _ (c .before .before .if1 .left) (sym (c .before .is-space .ensures) ∙ c .if2 .taken))), search needs)
 
 add-at : tie.Need-add-at Inv-loop μ-loop
 add-at c = search needs
@@ -35,10 +45,15 @@ loop-less : tie.Need-loop-less Inv-loop μ-loop
 loop-less c = search needs
 
 loop-again : tie.Need-loop-again Inv-loop μ-loop
-loop-again c = search needs
+loop-again c =
+    let l = c .before .before .before .before .before in
+    let s = l .before .before .args .line .now in
+    (search needs, omega (arith, l .loop .inv .1, run-more s {at = l .loop .at} (search needs) (in-word-yes _ (c .before .before .if1 .left) (sym (c .before .is-space .ensures) ∙ c .if2 .left))))
 
 returns-3 : tie.Need-returns-3 Inv-loop μ-loop
-returns-3 c = search needs
+returns-3 c =
+    let l = c .before in
+    (omega (arith, l .loop .inv .1, run-end (l .before .before .args .line .now) {at = l .loop .at} (search needs)), search needs)
 
 pub word-end-spec : {M : Type 1} → statement M
 word-end-spec =

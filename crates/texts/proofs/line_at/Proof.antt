@@ -1,10 +1,10 @@
--- `put_line` reads within the text. The invariant: there are no more lines than bytes.
+-- `texts::line_at` reads within the text. The invariant: there are no more lines than bytes.
 -- Assumes nothing.
 use Prim.Native.Nat.{_≤_, _-_}
 use lib.ListN.{length}
 use borrow.Author.Needs.{needs}
-use Rattle.menus.proofs.put_line.Statement.{statement}
-use Rattle.menus.proofs.put_line.Tie as tie
+use Rattle.texts.proofs.line_at.Statement.{statement}
+use Rattle.texts.proofs.line_at.Tie as tie
 
 abbrev Inv-loop : tie.InvT-loop
 Inv-loop text place line₀ at₀ line at = line ≤ at
@@ -15,20 +15,17 @@ abbrev μ-loop : tie.MeasureT-loop
 loop-holds : tie.Need-loop-holds Inv-loop μ-loop
 loop-holds c = search needs
 
-line-end-requires : tie.Need-line-end-requires Inv-loop μ-loop
-line-end-requires c κs = search needs
+find-requires : tie.Need-find-requires Inv-loop μ-loop
+find-requires c κs = search needs
 
-sub-put : tie.Need-sub-put Inv-loop μ-loop
-sub-put c = search needs
+sub-result : tie.Need-sub-result Inv-loop μ-loop
+sub-result c = search needs
 
-part-put-start : tie.Need-part-put-start Inv-loop μ-loop
-part-put-start c = search needs
+part-result-start : tie.Need-part-result-start Inv-loop μ-loop
+part-result-start c = search needs
 
-part-put-end : tie.Need-part-put-end Inv-loop μ-loop
-part-put-end c = search needs
-
-put-requires : tie.Need-put-requires Inv-loop μ-loop
-put-requires c κs = search needs
+part-result-end : tie.Need-part-result-end Inv-loop μ-loop
+part-result-end c = search needs
 
 returns : tie.Need-returns Inv-loop μ-loop
 returns c = search needs
@@ -45,24 +42,27 @@ loop-less c = search needs
 loop-again : tie.Need-loop-again Inv-loop μ-loop
 loop-again c = search needs
 
+slice-aggregate-result : tie.Need-slice-aggregate-result Inv-loop μ-loop
+slice-aggregate-result c = search needs
+
 returns-2 : tie.Need-returns-2 Inv-loop μ-loop
 returns-2 c = search needs
 
-pub put-line-spec : {M : Type 1} → statement M
-put-line-spec =
+pub line-at-spec : {M : Type 1} → statement M
+line-at-spec =
     tie.close
     (tie.spec
     Inv-loop
     μ-loop
     loop-holds
-    line-end-requires
-    sub-put
-    part-put-start
-    part-put-end
-    put-requires
+    find-requires
+    sub-result
+    part-result-start
+    part-result-end
     returns
     add-line
     add-at
     loop-less
     loop-again
+    slice-aggregate-result
     returns-2)

@@ -1,12 +1,12 @@
--- `asks::first` meets its contract.
+-- `texts::first` meets its contract.
 -- Assumes nothing.
 use native.Mathlib.Omega.{arith}
 use mathlib.Core.Path.{sym}
 use lib.Seq.{take-all, length-take-le}
 use denote.Ref.{now}
 use borrow.Author.Needs.{needs}
-use Rattle.asks.proofs.first.Statement.{statement}
-use Rattle.asks.proofs.first.Tie as tie
+use Rattle.texts.proofs.first.Statement.{statement}
+use Rattle.texts.proofs.first.Tie as tie
 
 returns : tie.Need-returns
 returns c =

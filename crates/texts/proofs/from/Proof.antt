@@ -1,10 +1,10 @@
--- `asks::from` meets its contract.
+-- `texts::from` meets its contract.
 -- Assumes nothing.
 use denote.Ref.{now}
 use Rattle.lists.proofs.Parts.{part-rest, part-none}
 use borrow.Author.Needs.{needs}
-use Rattle.asks.proofs.from.Statement.{statement}
-use Rattle.asks.proofs.from.Tie as tie
+use Rattle.texts.proofs.from.Statement.{statement}
+use Rattle.texts.proofs.from.Tie as tie
 
 sub-result : tie.Need-sub-result
 sub-result c = search needs

@@ -1,10 +1,10 @@
--- `asks::byte_at` meets its contract.
+-- `texts::byte_at` meets its contract.
 -- Assumes nothing.
 use mathlib.Core.Path.{sym}
 use lib.ListN.{List·getD-eq-default}
 use borrow.Author.Needs.{needs}
-use Rattle.asks.proofs.byte_at.Statement.{statement}
-use Rattle.asks.proofs.byte_at.Tie as tie
+use Rattle.texts.proofs.byte_at.Statement.{statement}
+use Rattle.texts.proofs.byte_at.Tie as tie
 
 shared-slice-read-result : tie.Need-shared-slice-read-result
 shared-slice-read-result c = search needs
