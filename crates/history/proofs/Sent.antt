@@ -107,7 +107,7 @@ module _ (m : Model) (n : ℕ) (bytes : List ℕ) (ok : refusal m (proactive (se
   sends-no-menu = go (isMenu document bytes) refl
     where
       go : (b : Bool) → isMenu document bytes ≡ b → b ≡ false
-      go true e = clashing (ap (λ (s : List ℕ). barred (commandOf s)) (sym (only-written document bytes e .1)) ∙ menu-barred (readMenu document bytes)) not-barred
+      go true e = clashing (ap (λ (s : List ℕ). barred (commandOf s)) (sym (only-written document bytes e .written)) ∙ menu-barred (readMenu document bytes)) not-barred
       go false e = refl
 
   pub sends-no-list : isEventList bytes ≡ false
