@@ -2,7 +2,6 @@
 -- speak of are those of the card's calls; the screen is right; and the final theorem, over the struct, in its parts and whole.
 pub mod DemandOne
 pub mod OneAnswer
-pub mod OneMenu
 pub mod SameRuns
 pub mod OnScreen
 pub mod TablesNamed

@@ -5,11 +5,12 @@ use native.Mathlib.Omega.{arith}
 use mir.Val.{Fits}
 use mir.Syntax.{w8, w64}
 use mathlib.Core.Path.{_≡_, refl, sym, _∙_, subst}
-use mathlib.Core.List.{List}
+use mathlib.Core.List.{List, [], _∷_}
 use lib.ListN.{length}
 use lib.Dec.{lit≤}
 use borrow.Author.Tests.{leb-true, leb-false}
 use Rattle.lists.specs.Tests.{_==_, _<?_, _≤?_}
+use Rattle.lists.specs.Lists.{in?}
 use Rattle.lists.proofs.Ifs.{if-holds}
 use Rattle.rules.specs.declared.Len.{Len}
 use Rattle.rules.specs.declared.Len.the-variants.{Known, Bad}
@@ -21,10 +22,8 @@ use Rattle.rules.specs.Bytes.{byte, tagSize, tagNumber, longLength, lengthAt, v
 tag-small : (t : ℕ) → tagSize t ≤ 3
 unfolding tagSize
 tag-small t =
-    if-holds (λ n. n ≤ 3) (t == 0x00) (λ _. lit≤ tt)
-    (λ _. if-holds (λ n. n ≤ 3) (t == 0x80) (λ _. lit≤ tt)
-    (λ _. if-holds (λ n. n ≤ 3) (t == 0xFF) (λ _. lit≤ tt)
-    (λ _. if-holds (λ n. n ≤ 3) (t == 0x7F) (λ _. lit≤ tt) (λ _. lit≤ tt))))
+    if-holds (λ n. n ≤ 3) (in? t (0x00 ∷ 0x80 ∷ 0xFF ∷ [])) (λ _. lit≤ tt)
+    (λ _. if-holds (λ n. n ≤ 3) (t == 0x7F) (λ _. lit≤ tt) (λ _. lit≤ tt))
 
 -- the position past a tag fits (the last premise is what a slice of bytes tells of its length)
 pub tag-fits : (s : List ℕ) (at size t : ℕ) → at < length s → size ≡ tagSize t → length s * 1 < 2 ^ 63 → Fits w64 (at + size)

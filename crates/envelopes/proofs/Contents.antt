@@ -9,18 +9,19 @@ use lib.ListN.{length, length-drop}
 use Rattle.lists.specs.Tests.{if_then_else_}
 use Rattle.rules.specs.declared.Outer.{Outer}
 use Rattle.rules.specs.declared.Outer.the-variants.{Tlv, Malformed}
-use Rattle.rules.specs.Bytes.{runAt, fills, rest, outerOf}
-use Rattle.rules.specs.Envelopes.{envelopeIn, envelopeOf, badEnvelope, contentIn, contentOf}
+use Rattle.rules.specs.declared.Envelope.{Envelope}
+use Rattle.rules.specs.declared.Envelope.the-variants as envelope
+use Rattle.rules.specs.Bytes.{isRun, rest, outerOf}
+use Rattle.rules.specs.Envelopes.{envelopeBy, withOuter, envelopeOf, badEnvelope, contentOf}
 use Rattle.tlv.proofs.Wraps.{outer-wrapped}
 
--- by what the outer tag and length are known to be
-content-by : (s : List ℕ) {o y : Outer} → o ≡ outerOf s → o ≡ y → contentOf s ≡ if badEnvelope (envelopeIn s y) then [] else contentIn s y
-unfolding contentOf envelopeOf
-content-by s p q = ap (λ (w : Outer). if badEnvelope (envelopeIn s w) then [] else contentIn s w) (sym p ∙ q)
+-- what is said of an envelope by its outer tag and length
+abbrev saidBy : List ℕ → Outer → Envelope
+saidBy s o = withOuter s o envelopeBy envelope.Malformed
 
 pub content-none : (s : List ℕ) {o : Outer} → o ≡ outerOf s → o ≡ Malformed → [] ≡ contentOf s
-unfolding envelopeIn badEnvelope
-content-none s p q = sym (content-by s p q)
+unfolding contentOf envelopeOf withOuter badEnvelope
+content-none s p q = ap (λ (w : Outer). if badEnvelope (saidBy s w) then [] else withOuter s w (λ tag value. value) []) (sym q ∙ p)
 
 pub content-refused : (s : List ℕ) → badEnvelope (envelopeOf s) ≡ true → contentOf s ≡ []
 unfolding contentOf
@@ -31,18 +32,18 @@ pub record Content (s : List ℕ) : Type 0 where
   pub start : ℕ
   pub within : start ≤ length s
   pub tail : contentOf s ≡ rest s start
-  pub run : fills (runAt (contentOf s) 0) ≡ true
+  pub run : isRun (contentOf s) ≡ true
 
 pub content-accepted : (s : List ℕ) → badEnvelope (envelopeOf s) ≡ false → Content s
-unfolding contentOf contentIn envelopeOf envelopeIn badEnvelope
+unfolding contentOf envelopeOf withOuter badEnvelope
 content-accepted s h = go (outerOf s) refl
   where
     go : (o : Outer) → outerOf s ≡ o → Content s
     go (Tlv tag b) e =
         let w = outer-wrapped s refl e in
-        let c : contentOf s ≡ rest s b = rw h (ap (contentIn s) e) in
-        record { start = b; within = w .within; tail = c; run = ap (λ (v : List ℕ). fills (runAt v 0)) c ∙ w .run }
-    go Malformed e = absurd (false≢true (sym h ∙ ap (λ (o : Outer). badEnvelope (envelopeIn s o)) e))
+        let c : contentOf s ≡ rest s b = rw h (ap (λ (o : Outer). withOuter s o (λ tag value. value) []) e) in
+        record { start = b; within = w .within; tail = c; run = ap isRun c ∙ w .run }
+    go Malformed e = absurd (false≢true (sym h ∙ ap (λ (o : Outer). badEnvelope (saidBy s o)) e))
 
 -- it is no longer than the envelope
 pub content-short : (s : List ℕ) → length (contentOf s) ≤ length s

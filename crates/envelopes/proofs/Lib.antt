@@ -1,3 +1,4 @@
--- Laws of the rules' definitions on envelopes and commands: the bytes of a value found; the handler's content.
+-- Laws of the rules' definitions on envelopes and commands: the bytes of a value found; what they say; the handler's content.
 pub mod Bytes
+pub mod Says
 pub mod Contents

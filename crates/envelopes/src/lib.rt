@@ -8,11 +8,11 @@ use rules::Help;
 use rules::Outer;
 ghost use mathlib.Core.Path.{_≡_};
 ghost use Rattle.rules.specs.Bytes.{found};
-ghost use Rattle.rules.specs.Envelopes.{isSized, onlyByte, helpBy, menuIn, callIn, downloadIn, expiryIn, envelopeBy, envelopeOf, badEnvelope, contentOf, typeBy, commandBy, commandOf};
+ghost use Rattle.rules.specs.Envelopes.{isSized, oneByte, helpIn, envelopeBy, envelopeOf, badEnvelope, contentOf, typeIn, commandBy, commandOf};
 
 // Whether device identities are there, with their two bytes.
 fn has_devices(s: &[u8]) -> bool
-    ensures { λ r. ⌜ r ≡ isSized (found (now (s .entry)) 0x02 1) 2 ⌝ }
+    ensures { λ r. ⌜ r ≡ isSized 2 (found (now (s .entry)) 0x02 1) ⌝ }
 {
     let f = tlv::locate(s, 0x02, 1);
     match f {
@@ -23,7 +23,7 @@ fn has_devices(s: &[u8]) -> bool
 
 // The byte of an element that is to have one.
 fn only_byte(s: &[u8], tag: u16) -> Byte
-    ensures { λ r. ⌜ r ≡ onlyByte (now (s .entry)) (found (now (s .entry)) tag 1) ⌝ }
+    ensures { λ r. ⌜ r ≡ oneByte (now (s .entry)) tag ⌝ }
 {
     let f = tlv::locate(s, tag, 1);
     match f {
@@ -41,7 +41,7 @@ fn only_byte(s: &[u8], tag: u16) -> Byte
 
 // The help request, which has no bytes.
 fn help(s: &[u8]) -> Help
-    ensures { λ r. ⌜ r ≡ helpBy (found (now (s .entry)) 0x15 1) ⌝ }
+    ensures { λ r. ⌜ r ≡ helpIn (found (now (s .entry)) 0x15 1) ⌝ }
 {
     let f = tlv::locate(s, 0x15, 1);
     match f {
@@ -58,7 +58,7 @@ fn help(s: &[u8]) -> Help
 
 // Menu selection: device identities, an item identifier, perhaps a help request.
 fn menu(s: &[u8]) -> Envelope
-    ensures { λ r. ⌜ r ≡ menuIn (now (s .entry)) ⌝ }
+    ensures { λ r. ⌜ r ≡ envelopeBy 0xD3 (now (s .entry)) ⌝ }
 {
     if has_devices(s) {
         let b = only_byte(s, 0x10);
@@ -80,7 +80,7 @@ fn menu(s: &[u8]) -> Envelope
 
 // Call control: device identities.
 fn call(s: &[u8]) -> Envelope
-    ensures { λ r. ⌜ r ≡ callIn (now (s .entry)) ⌝ }
+    ensures { λ r. ⌜ r ≡ envelopeBy 0xD4 (now (s .entry)) ⌝ }
 {
     if has_devices(s) {
         Envelope::Call
@@ -91,7 +91,7 @@ fn call(s: &[u8]) -> Envelope
 
 // Event download: device identities and an event list of one code.
 fn download(s: &[u8]) -> Envelope
-    ensures { λ r. ⌜ r ≡ downloadIn (now (s .entry)) ⌝ }
+    ensures { λ r. ⌜ r ≡ envelopeBy 0xD6 (now (s .entry)) ⌝ }
 {
     if has_devices(s) {
         let b = only_byte(s, 0x19);
@@ -106,7 +106,7 @@ fn download(s: &[u8]) -> Envelope
 
 // Timer expiration: device identities and a timer identifier.
 fn expiry(s: &[u8]) -> Envelope
-    ensures { λ r. ⌜ r ≡ expiryIn (now (s .entry)) ⌝ }
+    ensures { λ r. ⌜ r ≡ envelopeBy 0xD7 (now (s .entry)) ⌝ }
 {
     if has_devices(s) {
         let b = only_byte(s, 0x24);
@@ -176,7 +176,7 @@ pub fn content(s: &[u8]) -> &[u8]
 
 // The type of a command: the second of the three bytes of its details.
 fn kind(s: &[u8]) -> Byte
-    ensures { λ r. ⌜ r ≡ typeBy (now (s .entry)) (found (now (s .entry)) 0x01 1) ⌝ }
+    ensures { λ r. ⌜ r ≡ typeIn (now (s .entry)) (found (now (s .entry)) 0x01 1) ⌝ }
 {
     let f = tlv::locate(s, 0x01, 1);
     match f {
@@ -192,9 +192,9 @@ fn kind(s: &[u8]) -> Byte
     }
 }
 
-// What a command with this value says.
+// What a command with the outer tag D0 and this value says.
 fn instruct(s: &[u8]) -> Command
-    ensures { λ r. ⌜ r ≡ commandBy (now (s .entry)) (typeBy (now (s .entry)) (found (now (s .entry)) 0x01 1)) ⌝ }
+    ensures { λ r. ⌜ r ≡ commandBy 0xD0 (now (s .entry)) ⌝ }
 {
     let k = kind(s);
     match k {

@@ -54,7 +54,7 @@ list-no-menu : (l : List ℕ) → isMenu document (eventBytes l) ≡ false
 list-no-menu l = go (isMenu document (eventBytes l)) refl
   where
     go : (b : Bool) → isMenu document (eventBytes l) ≡ b → b ≡ false
-    go true e = absurd (apart (readMenu document (eventBytes l)) l (only-written document (eventBytes l) e .1))
+    go true e = absurd (apart (readMenu document (eventBytes l)) l (only-written document (eventBytes l) e .written))
     go false e = refl
 
 menu-no-list : (m : Menu) → isEventList (menuBytes m) ≡ false

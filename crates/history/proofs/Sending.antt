@@ -2,9 +2,10 @@
 -- Assumes nothing.
 use Prim.Native.Nat.{ℕ}
 use mathlib.Core.Path.{_≡_, refl, ap, _∙_}
-use mathlib.Core.Bool.{Bool, true, false, _||_}
-use mathlib.Core.List.{List, []}
-use Rattle.lists.specs.Tests.{if_then_else_, _==_}
+use mathlib.Core.Bool.{Bool, true, false}
+use mathlib.Core.List.{List, [], _∷_}
+use Rattle.lists.specs.Tests.{if_then_else_}
+use Rattle.lists.specs.Lists.{in?}
 use Rattle.rules.specs.declared.Command.the-variants.{Plain}
 use Rattle.rules.specs.Holds.{Desk, Model}
 use Rattle.rules.specs.Envelopes.{commandOf, badCommand, systemType}
@@ -16,23 +17,12 @@ use Rattle.rules.specs.Step.{proactiveDesk, deskAfter, tablesAfter, changed, an
 use Rattle.rules.proofs.DueMarks.{marked-same}
 use Rattle.history.proofs.Answered.{passes, gives}
 
--- SET UP MENU 25, SET UP EVENT LIST 05, POLL INTERVAL 03, POLLING OFF 04
-abbrev pub systems? : (type : ℕ) → Bool
-systems? type = type == 0x25 || (type == 0x05 || (type == 0x03 || type == 0x04))
-
-same-types : (a b c d : Bool) → (if a then true else if b then true else if c then true else d) ≡ (a || (b || (c || d)))
-same-types true b c d = refl
-same-types false true c d = refl
-same-types false false true d = refl
-same-types false false false d = refl
-
 -- A COMMAND OF ANOTHER TYPE THAN TIMER MANAGEMENT, by an applet that is there, with none outstanding: it gets 17 just for the four types.
 pub send-gets-17 : (m : Model) (n : ℕ) (bytes : List ℕ) (type : ℕ) → commandOf bytes ≡ Plain type → present (m .tables) n ≡ true → m .desk .outstanding ≡ false
-    → step m (proactive (send n bytes)) .answer .refusal ≡ (if systems? type then 17 else 0)
+    → step m (proactive (send n bytes)) .answer .refusal ≡ (if in? type (0x25 ∷ 0x05 ∷ 0x03 ∷ 0x04 ∷ []) then 17 else 0)
 unfolding refusal lines proactiveLines lowest absent badCommand foreignTimer systemType
 send-gets-17 m n bytes type is here none =
-    gives m (proactive (send n bytes))
-    ∙ rw (is, here, none) (ap (λ (b : Bool). if b then 17 else 0) (same-types (type == 0x25) (type == 0x05) (type == 0x03) (type == 0x04)))
+    gives m (proactive (send n bytes)) ∙ rw (is, here, none) refl
 
 -- accepted, with the card as it was but for what is outstanding
 abbrev pub leaving : Bool → Model → Outcome

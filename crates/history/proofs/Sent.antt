@@ -1,6 +1,6 @@
 -- A send of a menu command, or of an event list, is refused: by its type, if its bytes are not refused before.
 -- Assumes nothing.
-use Prim.Native.Nat.{ℕ, suc, _+_, _-_}
+use Prim.Native.Nat.{ℕ, suc, _+_}
 use native.Mathlib.Omega.{arith}
 use mathlib.Core.Path.{_≡_, refl, sym, ap, _∙_}
 use mathlib.Core.Bool.{Bool, true, false, _||_}
@@ -9,9 +9,10 @@ use lib.ListN.{length, drop}
 use lib.Dec.{eqb·suc-zero}
 use borrow.Author.Tests.{le-leb, lt-leb}
 use Rattle.lists.specs.Tests.{if_then_else_, _==_, _<?_, _≤?_}
-use Rattle.lists.specs.Lists.{Every}
+use Rattle.lists.specs.Lists.{Every, some?, keep, in?}
 use Rattle.lists.proofs.Decided.{clashing}
 use Rattle.rules.specs.declared.Command.{Command}
+use Rattle.rules.specs.declared.Command.the-variants as command
 use Rattle.rules.specs.declared.Len.the-variants.{Known}
 use Rattle.rules.specs.declared.Element.{Element}
 use Rattle.rules.specs.declared.Element.the-variants.{Whole}
@@ -21,8 +22,8 @@ use Rattle.rules.specs.declared.Outer.{Outer}
 use Rattle.rules.specs.declared.Outer.the-variants.{Tlv}
 use Rattle.rules.specs.declared.Outer.the-variants as outer
 use Rattle.rules.specs.Holds.{Model, document}
-use Rattle.rules.specs.Bytes.{byte, tagSize, tagNumber, longLength, lengthAt, valued, elementBy, elementAt, grow, runBy, runAt, fills, nth, found, rest, outerBy, outerOf}
-use Rattle.rules.specs.Envelopes.{typeBy, commandBy, commandIn, commandOf, badCommand, systemType}
+use Rattle.rules.specs.Bytes.{byte, tagSize, tagNumber, longLength, lengthAt, valued, elementBy, elementAt, runOn, runBy, runAt, isRun, firstValue, occurring, found, rest, outerBy, outerOf}
+use Rattle.rules.specs.Envelopes.{withByte, typeIn, ofType, commandBy, withOuter, commandOf, badCommand, systemType}
 use Rattle.rules.specs.Commands.{Menu, lengthBytes, commandBytes, detailBytes, menuValue, menuBytes, eventBytes, readMenu, isMenu}
 use Rattle.rules.specs.Calls.{proactive, send}
 use Rattle.rules.specs.Refusals.{proactiveLines, lines, refusal}
@@ -35,12 +36,12 @@ abbrev barred : Command → Bool
 barred c = badCommand c || systemType c
 
 -- a command whose value says so, behind a length of one byte or two
-behind : (v s : List ℕ) (b : ℕ) → barred (commandBy v (typeBy v (found v 0x01 1))) ≡ true → byte s 0 ≡ 0xD0 → rest s b ≡ v
-    → barred (commandIn s (outerBy s (Known (length v) b))) ≡ true
-unfolding outerBy commandIn badCommand
-behind v s b k e f = go (length s - b == length v) (fills (runAt (rest s b) 0))
+behind : (v s : List ℕ) (b : ℕ) → barred (commandBy 0xD0 v) ≡ true → byte s 0 ≡ 0xD0 → rest s b ≡ v
+    → barred (withOuter s (outerBy s (Known (length v) b)) commandBy command.Malformed) ≡ true
+unfolding outerBy withOuter badCommand
+behind v s b k e f = go (b + length v == length s) (isRun (rest s b))
   where
-    go : (x y : Bool) → barred (commandIn s (if x then if y then Tlv (byte s 0) b else outer.Malformed else outer.Malformed)) ≡ true
+    go : (x y : Bool) → barred (withOuter s (if x then if y then Tlv (byte s 0) b else outer.Malformed else outer.Malformed) commandBy command.Malformed) ≡ true
     go true true = rw (e, f) k
     go true false = refl
     go false y = refl
@@ -61,17 +62,17 @@ long v e =
     let b : (length (0xD0 ∷ 0x81 ∷ length v ∷ v) ≤? (1 + 1)) ≡ false = lt-leb (suc (suc (suc (length v)))) 2 (omega arith) in
     rw (z, a, b, e) refl
 
-said : (v : List ℕ) → barred (commandBy v (typeBy v (found v 0x01 1))) ≡ true → barred (commandOf (commandBytes v)) ≡ true
+said : (v : List ℕ) → barred (commandBy 0xD0 v) ≡ true → barred (commandOf (commandBytes v)) ≡ true
 unfolding commandOf commandBytes lengthBytes
 said v k = go (length v <? 0x80) refl
   where
     go : (b : Bool) → (length v <? 0x80) ≡ b → barred (commandOf (0xD0 ∷ (if b then length v ∷ [] else 0x81 ∷ length v ∷ []) ++ v)) ≡ true
-    go true e = ap (λ (o : Outer). barred (commandIn (0xD0 ∷ length v ∷ v) o)) (short v e) ∙ behind v (0xD0 ∷ length v ∷ v) 2 k refl refl
-    go false e = ap (λ (o : Outer). barred (commandIn (0xD0 ∷ 0x81 ∷ length v ∷ v) o)) (long v e) ∙ behind v (0xD0 ∷ 0x81 ∷ length v ∷ v) 3 k refl refl
+    go true e = ap (λ (o : Outer). barred (withOuter (0xD0 ∷ length v ∷ v) o commandBy command.Malformed)) (short v e) ∙ behind v (0xD0 ∷ length v ∷ v) 2 k refl refl
+    go false e = ap (λ (o : Outer). barred (withOuter (0xD0 ∷ 0x81 ∷ length v ∷ v) o commandBy command.Malformed)) (long v e) ∙ behind v (0xD0 ∷ 0x81 ∷ length v ∷ v) 3 k refl refl
 
 -- the details stand first in the value, and say the type
 details : (n type q : ℕ) (l : List ℕ) → elementAt (0x81 ∷ 0x03 ∷ n ∷ type ∷ q ∷ l) 0 ≡ Whole 0x01 2 3 5
-unfolding elementAt elementBy tagSize tagNumber lengthAt valued
+unfolding elementAt elementBy tagSize in? some? tagNumber lengthAt valued
 details n type q l =
     let a : (length (0x81 ∷ 0x03 ∷ n ∷ type ∷ q ∷ l) ≤? 0) ≡ false = lt-leb (suc (suc (suc (suc (suc (length l)))))) 0 (omega arith) in
     let b : (length (0x81 ∷ 0x03 ∷ n ∷ type ∷ q ∷ l) ≤? 1) ≡ false = lt-leb (suc (suc (suc (suc (suc (length l)))))) 1 (omega arith) in
@@ -79,22 +80,22 @@ details n type q l =
     rw (a, b, c) refl
 
 typed : (n type q : ℕ) (l : List ℕ)
-    → typeBy (0x81 ∷ 0x03 ∷ n ∷ type ∷ q ∷ l) (found (0x81 ∷ 0x03 ∷ n ∷ type ∷ q ∷ l) 0x01 1) ≡ One type
-unfolding found runAt runBy nth typeBy
+    → typeIn (0x81 ∷ 0x03 ∷ n ∷ type ∷ q ∷ l) (found (0x81 ∷ 0x03 ∷ n ∷ type ∷ q ∷ l) 0x01 1) ≡ One type
+unfolding found runAt runBy keep firstValue occurring typeIn
 typed n type q l =
     let v : List ℕ = 0x81 ∷ 0x03 ∷ n ∷ type ∷ q ∷ l in
-    ap (λ (e : Element). typeBy v (nth (grow e (λ next. runBy (length v) v next)) 0x01 1)) (details n type q l)
+    ap (λ (e : Element). typeIn v (occurring 0x01 1 (runOn e (λ next. runBy (length v) v next) .elements))) (details n type q l)
 
 menu-barred : (m : Menu) → barred (commandOf (menuBytes m)) ≡ true
-unfolding menuBytes menuValue detailBytes commandBy badCommand systemType
+unfolding menuBytes menuValue detailBytes withByte ofType commandBy badCommand systemType in? some?
 menu-barred m =
-    said (menuValue m) (ap (λ (b : Byte). barred (commandBy (menuValue m) b)) (typed 0x01 0x25 (if m .help then 0x80 else 0x00) (drop 5 (menuValue m))))
+    said (menuValue m) (ap (λ (b : Byte). barred (withByte b (ofType (menuValue m)) command.Malformed)) (typed 0x01 0x25 (if m .help then 0x80 else 0x00) (drop 5 (menuValue m))))
 
 list-barred : (l : List ℕ) → barred (commandOf (eventBytes l)) ≡ true
-unfolding eventBytes detailBytes commandBy badCommand systemType
+unfolding eventBytes detailBytes withByte ofType commandBy badCommand systemType in? some?
 list-barred l =
     let v : List ℕ = detailBytes 0x05 0x00 ++ 0x99 ∷ length l ∷ l in
-    said v (ap (λ (b : Byte). barred (commandBy v b)) (typed 0x01 0x05 0x00 (drop 5 v)))
+    said v (ap (λ (b : Byte). barred (withByte b (ofType v) command.Malformed)) (typed 0x01 0x05 0x00 (drop 5 v)))
 
 module _ (m : Model) (n : ℕ) (bytes : List ℕ) (ok : refusal m (proactive (send n bytes)) ≡ 0) where
   not-barred : barred (commandOf bytes) ≡ false
@@ -107,7 +108,7 @@ module _ (m : Model) (n : ℕ) (bytes : List ℕ) (ok : refusal m (proactive (se
   sends-no-menu = go (isMenu document bytes) refl
     where
       go : (b : Bool) → isMenu document bytes ≡ b → b ≡ false
-      go true e = clashing (ap (λ (s : List ℕ). barred (commandOf s)) (sym (only-written document bytes e .1)) ∙ menu-barred (readMenu document bytes)) not-barred
+      go true e = clashing (ap (λ (s : List ℕ). barred (commandOf s)) (sym (only-written document bytes e .written)) ∙ menu-barred (readMenu document bytes)) not-barred
       go false e = refl
 
   pub sends-no-list : isEventList bytes ≡ false

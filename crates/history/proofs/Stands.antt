@@ -17,9 +17,8 @@ use Rattle.lists.proofs.Truth.{and-false}
 use Rattle.rules.specs.Holds.{Row, Bounds, Tables, Model, document}
 use Rattle.rules.specs.Rows.{hasIdentifier}
 use Rattle.rules.specs.Commands.{Item, selectable, shownMenu, menuOf, menuBytes, properItem, mayStand}
-use Rattle.rules.specs.Refusals.{lowest}
-use Rattle.rules.specs.Beside.{readBy, menuReader}
-use Rattle.rules.proofs.Reader.{read-back, accepts}
+use Rattle.rules.specs.Beside.{menuReader}
+use Rattle.rules.proofs.Reader.{reader-reads}
 use Rattle.runs.specs.Sound.{SoundRow, Sound}
 use Rattle.history.specs.OnScreen.{itemOf}
 
@@ -95,10 +94,4 @@ shown-stands m s e =
 -- .. and is read back as it was written
 pub shown-read : (m : Model) → Sound m → m .tables .bounds ≡ document
     → menuReader document (menuBytes (menuOf (m .desk .title) (shownMenu (m .tables)))) ≡ record { refusal = 0; menu = menuOf (m .desk .title) (shownMenu (m .tables)) }
-unfolding menuReader lowest readBy
-shown-read m s e =
-    let menu = menuOf (m .desk .title) (shownMenu (m .tables)) in
-    rw (accepts document menu (shown-stands m s e), read-back document menu few) refl
-  where
-    few : length (menuOf (m .desk .title) (shownMenu (m .tables)) .items) ≤ 12
-    few = unfold shownMenu menuOf in omega (arith, ap (λ (b : Bounds). b .rows) e, map-length itemOf (keep (λ (r : Row). r .enabled && selectable (m .tables) (r .owner)) (m .tables .rows)), length-keep (λ (r : Row). r .enabled && selectable (m .tables) (r .owner)) (m .tables .rows), s .tables .few-rows)
+shown-read m s e = reader-reads document _ .accepted (menuOf (m .desk .title) (shownMenu (m .tables))) (record { stands = shown-stands m s e; written = refl })

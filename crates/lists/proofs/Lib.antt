@@ -29,3 +29,4 @@ pub mod Writing
 pub mod Scan
 pub mod Parts
 pub mod WrittenParts
+pub mod Among

@@ -15,11 +15,10 @@ use Rattle.rules.specs.declared.Item as held-item
 use Rattle.rules.specs.declared.Menu as held-menu
 use Rattle.rules.specs.Holds.{document}
 use Rattle.rules.specs.Bytes.{byte}
-use Rattle.rules.specs.Commands.{Item, Menu, itemBytes, itemsBytes, menuBytes, readMenu, properItem, mayStand, isMenu}
-use Rattle.rules.specs.Refusals.{lowest}
-use Rattle.rules.specs.Beside.{readBy, menuReader}
+use Rattle.rules.specs.Commands.{Item, Menu, itemBytes, itemsBytes, menuBytes, properItem, mayStand, WrittenAs}
+use Rattle.rules.specs.Beside.{menuReader}
 use Rattle.rules.specs.Held.{storedItem, storedMenu}
-use Rattle.rules.proofs.Reader.{read-back, accepts, only-written}
+use Rattle.rules.proofs.Reader.{reader-reads}
 use Rattle.reader.specs.declared.Parsed.{Parsed}
 use Rattle.reader.specs.Reads.{noItem, refused, identifiers, Stay, TitleAt, ItemsAt, ItemsRead}
 use Rattle.reader.proofs.Front.{help-is, title-size, behind-front, put-together}
@@ -51,29 +50,9 @@ may-stand : (m : Menu) → Stands m → mayStand document m ≡ true
 unfolding mayStand
 may-stand m h = rw (le-leb (length (m .title)) 20 (h .title), le-leb (length (m .items)) 12 (h .items .few), h .items .each, h .items .apart, h .marked) refl
 
--- what the verdict makes of the answer
-pub unread : (s : List ℕ) → isMenu document s ≡ false → refused ≡ menuReader document s
-unfolding menuReader lowest readBy
-unread s e = rw e refl
-
-as-read : (s : List ℕ) → isMenu document s ≡ true → record { refusal = 0; menu = readMenu document s } ≡ menuReader document s
-unfolding menuReader lowest readBy
-as-read s e = rw e refl
-
 -- bytes that are the command of no menu that may stand
-pub refuse : (s : List ℕ) → ((m : Menu) → Stands m → menuBytes m ≡ s → ⊥) → refused ≡ menuReader document s
-refuse s f = go (isMenu document s) refl
-  where
-    go : (b : Bool) → isMenu document s ≡ b → refused ≡ menuReader document s
-    go true e = let o = only-written document s e in absurd (f (readMenu document s) (stands-of _ (o .0)) (o .1))
-    go false e = unread s e
-
--- bytes that are the command of one
-pub accept : (s : List ℕ) (m : Menu) → Stands m → menuBytes m ≡ s → record { refusal = 0; menu = m } ≡ menuReader document s
-accept s m h e =
-    let a : isMenu document s ≡ true = ap (isMenu document) (sym e) ∙ accepts document m (may-stand m h) in
-    let r : readMenu document s ≡ m = ap (readMenu document) (sym e) ∙ read-back document m (h .items .few) in
-    ap (λ (x : Menu). record { refusal = 0; menu = x }) (sym r) ∙ as-read s a
+refuse : (s : List ℕ) → ((m : Menu) → Stands m → menuBytes m ≡ s → ⊥) → refused ≡ menuReader document s
+refuse s f = sym (reader-reads document s .refused (λ m w. f m (stands-of m (w .stands)) (w .written)))
 
 pub no-title : {s : List ℕ} {t : ℕ} → TitleAt s t → t ≡ 0 → refused ≡ menuReader document s
 no-title {s} o z = refuse s (λ m h e. o .none z m e)
@@ -124,16 +103,18 @@ module _ {s : List ℕ} {t : ℕ} (o : TitleAt s t) (z : t ≡ 0 → ⊥) where
           append-none [] e = e
           append-none (x ∷ l) e = ap (λ (j : List ℕ). x ∷ j) (append-none l e)
 
-      accepted : record { refusal = 0; menu = menu } ≡ menuReader document s
-      accepted =
-          accept s menu (record { title = omega (arith, title-long); items = w .stay; marked = found .1 }) (put-together menu (o .some z .0) (sym title-long)
-          (sym (take-append-drop size (drop t s)) ∙ ap (λ (l : List ℕ). take size (drop t s) ++ l) (drop-drop size t s ∙ sym (found .0))))
+      menu-written : WrittenAs document s menu
+      menu-written =
+          record {
+            stands = may-stand menu (record { title = omega (arith, title-long); items = w .stay; marked = found .1 });
+            written = put-together menu (o .some z .0) (sym title-long) (sym (take-append-drop size (drop t s)) ∙ ap (λ (l : List ℕ). take size (drop t s) ++ l) (drop-drop size t s ∙ sym (found .0)));
+          }
 
       pub is-read
           : {text : List ℕ} → text ≡ padded 20 0 (take 20 (take (t + size - t) (drop t s)))
           → _≡_ {A = held-menu.Menu} (record { refusal = 0; title = text; «title_len» = size; help = mark; at = r .at; count = r .count }) (storedMenu (menuReader document s))
       unfolding storedMenu
-      is-read {text} e = rw (e, part-held t size 20 (drop t s) short, w .at, w .count) (stored (sym title-long)) ∙ ap storedMenu accepted
+      is-read {text} e = rw (e, part-held t size 20 (drop t s) short, w .at, w .count) (stored (sym title-long)) ∙ ap storedMenu (sym (reader-reads document s .accepted menu menu-written))
         where
           stored : {n : ℕ} → n ≡ length (take size (drop t s)) → _≡_ {A = held-menu.Menu} (record { refusal = 0; title = padded 20 0 (take size (drop t s)); «title_len» = n; help = mark; at = padded 12 (storedItem noItem) (map storedItem (w .done)); count = length (w .done) }) (storedMenu (record { refusal = 0; menu = menu }))
           stored q = rw q refl

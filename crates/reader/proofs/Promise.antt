@@ -7,10 +7,10 @@ use mathlib.Core.Bool.{Bool, true, false, not, _&&_}
 use mathlib.Core.List.{List, [], _∷_, map}
 use Rattle.lists.specs.Lists.{some?, empty?}
 use Rattle.rules.specs.Holds.{Row, document}
-use Rattle.rules.specs.Commands.{Item, Menu, menuOf, menuBytes, readMenu, mayStand, isMenu}
+use Rattle.rules.specs.Commands.{Item, Menu, menuOf, menuBytes, mayStand, WrittenAs}
 use Rattle.rules.specs.Beside.{ReadOutcome, menuReader}
-use Rattle.rules.proofs.Reader.{only-written}
-use Rattle.reader.proofs.Answer.{stands-of, unread, accept}
+use Rattle.rules.proofs.Reader.{written-or-not, reader-reads}
+use Rattle.reader.proofs.Answer.{stands-of}
 
 -- the bytes are the command of a title and of rows that may stand in a menu
 pub record Written (s : List ℕ) : Type 0 where
@@ -21,7 +21,7 @@ pub record Written (s : List ℕ) : Type 0 where
 
 -- what is written from them is accepted, and they are read back
 pub written-is-read : (s : List ℕ) (w : Written s) → menuReader document s ≡ record { refusal = 0; menu = menuOf (w .title) (w .rows) }
-written-is-read s w = sym (accept s (menuOf (w .title) (w .rows)) (stands-of _ (w .stands)) (w .bytes))
+written-is-read s w = reader-reads document s .accepted (menuOf (w .title) (w .rows)) (record { stands = w .stands; written = w .bytes })
 
 -- a row for an item: an enabled one of applet 1
 abbrev rowFor : (help : Bool) → Item → Row
@@ -49,12 +49,12 @@ rows-of m e = rw (some-help (m .help) (m .items), items-again (m .help) (m .item
 
 -- what is accepted is written from some
 pub read-is-written : (s : List ℕ) → menuReader document s .refusal ≡ 0 → Written s
-read-is-written s e =
-    let o = only-written document s (is-menu (isMenu document s) refl) in
-    let m = readMenu document s in
-    let q : menuOf (m .title) (map (rowFor (m .help)) (m .items)) ≡ m = rows-of m (stands-of m (o .0) .marked) in
-    record { title = m .title; rows = map (rowFor (m .help)) (m .items); stands = ap (mayStand document) q ∙ o .0; bytes = ap menuBytes q ∙ o .1 }
+read-is-written s e = written-or-not document s some none
   where
-    is-menu : (b : Bool) → isMenu document s ≡ b → isMenu document s ≡ true
-    is-menu true q = q
-    is-menu false q = let z : _≡_ {A = ℕ} 1 0 = ap (λ (r : ReadOutcome). r .refusal) (unread s q) ∙ e in absurd (omega arith)
+    some : (m : Menu) → WrittenAs document s m → Written s
+    some m w =
+        let q : menuOf (m .title) (map (rowFor (m .help)) (m .items)) ≡ m = rows-of m (stands-of m (w .stands) .marked) in
+        record { title = m .title; rows = map (rowFor (m .help)) (m .items); stands = ap (mayStand document) q ∙ w .stands; bytes = ap menuBytes q ∙ w .written }
+
+    none : ((m : Menu) → WrittenAs document s m → ⊥) → Written s
+    none f = let z : _≡_ {A = ℕ} 1 0 = ap (λ (r : ReadOutcome). r .refusal) (sym (reader-reads document s .refused f)) ∙ e in absurd (omega arith)

@@ -9,7 +9,7 @@ use Rattle.lists.specs.Lists.{every?, repeats?, empty?, gather, padded}
 use Rattle.rules.specs.Holds.{document}
 use Rattle.rules.specs.Bytes.{byte}
 use Rattle.rules.specs.Commands.{Item, Menu, commandBytes, detailBytes, itemBytes, itemsBytes, menuBytes, properItem}
-use Rattle.rules.specs.Beside.{ReadOutcome}
+use Rattle.rules.specs.Beside.{ReadOutcome, noMenu}
 use Rattle.rules.specs.Held.{storedItem}
 use Rattle.reader.specs.declared.Parsed.{Parsed}
 
@@ -18,7 +18,7 @@ noItem = record { identifier = 0; text = [] }
 
 -- what the reader answers to all that is no menu command
 abbrev pub refused : ReadOutcome
-refused = record { refusal = 1; menu = record { title = []; help = false; items = [] } }
+refused = record { refusal = 1; menu = noMenu }
 
 abbrev pub identifiers : List Item → List ℕ
 identifiers l = map (λ (i : Item). i .identifier) l

@@ -31,11 +31,11 @@ unfolding events′.values events′.codes events′.named events′.kindOf even
 openEvents = tt
 
 unfoldable pub openBytes : Unit {0}
-unfolding bytes′.tagSize bytes′.tagNumber bytes′.longLength bytes′.lengthAt bytes′.valued bytes′.elementBy bytes′.elementAt bytes′.runBy bytes′.runAt bytes′.fills bytes′.nth bytes′.found bytes′.isFound bytes′.partOf bytes′.outerBy bytes′.outerOf
+unfolding bytes′.tagSize bytes′.tagNumber bytes′.longLength bytes′.lengthAt bytes′.valued bytes′.elementBy bytes′.elementAt bytes′.runBy bytes′.runAt bytes′.isRun bytes′.firstValue bytes′.occurring bytes′.found bytes′.isFound bytes′.partOf bytes′.outerBy bytes′.outerOf
 openBytes = tt
 
 unfoldable pub openEnvelopes : Unit {0}
-unfolding envelopes′.isSized envelopes′.onlyByte envelopes′.helpBy envelopes′.withDevices envelopes′.menuBy envelopes′.menuIn envelopes′.callIn envelopes′.downloadBy envelopes′.downloadIn envelopes′.expiryBy envelopes′.expiryIn envelopes′.envelopeBy envelopes′.envelopeIn envelopes′.envelopeOf envelopes′.badEnvelope envelopes′.contentIn envelopes′.contentOf envelopes′.typeBy envelopes′.timerBy envelopes′.commandBy envelopes′.commandIn envelopes′.commandOf envelopes′.badCommand envelopes′.systemType
+unfolding envelopes′.isSized envelopes′.onlyByte envelopes′.oneByte envelopes′.withByte envelopes′.withDevices envelopes′.helpIn envelopes′.selection envelopes′.envelopeBy envelopes′.withOuter envelopes′.envelopeOf envelopes′.badEnvelope envelopes′.contentOf envelopes′.typeIn envelopes′.ofType envelopes′.commandBy envelopes′.commandOf envelopes′.badCommand envelopes′.systemType
 openEnvelopes = tt
 
 unfoldable pub openApplets : Unit {0}

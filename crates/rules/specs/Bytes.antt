@@ -1,13 +1,15 @@
 -- Runs of elements and outer tags (document 01, "Reading envelopes and commands").
 use Prim.Native.Nat.{ℕ, zero, suc, _+_, _-_, _%_}
 use mathlib.Core.Bool.{Bool, true, false}
-use mathlib.Core.List.{List, []}
+use mathlib.Core.List.{List, [], _∷_}
 use lib.ListN.{length, getD, take, drop}
 use Rattle.lists.specs.Tests.{if_then_else_, _==_, _<?_, _≤?_}
+use Rattle.lists.specs.Lists.{keep, in?}
 use Rattle.rules.specs.declared.Len.{Len}
 use Rattle.rules.specs.declared.Len.the-variants.{Known, Bad}
 use Rattle.rules.specs.declared.Element.{Element}
 use Rattle.rules.specs.declared.Element.the-variants.{Whole, Malformed, End}
+use Rattle.rules.specs.declared.Span.{Span}
 use Rattle.rules.specs.declared.Found.{Found}
 use Rattle.rules.specs.declared.Found.the-variants.{At, Nothing}
 use Rattle.rules.specs.declared.Outer.{Outer}
@@ -20,7 +22,7 @@ byte s at = getD s at 0
 
 -- how many bytes a tag takes, by its first: 00, 80 and FF start none (0), 7F three, any other one
 unfoldable pub tagSize : (first : ℕ) → ℕ
-tagSize t = if t == 0x00 then 0 else if t == 0x80 then 0 else if t == 0xFF then 0 else if t == 0x7F then 3 else 1
+tagSize first = if in? first (0x00 ∷ 0x80 ∷ 0xFF ∷ []) then 0 else if first == 0x7F then 3 else 1
 
 -- the number that the tag at a position is compared by: a one-byte tag's without bit 8; a three-byte tag matches none, and gets 0
 unfoldable pub tagNumber : List ℕ → (at : ℕ) → ℕ
@@ -41,7 +43,7 @@ lengthAt s at =
 
 -- an element whose value has this length: whole if the value ends within the bytes
 unfoldable pub valued : List ℕ → (number : ℕ) → Len → Element
-valued s number (Known n b) = if b + n ≤? length s then Whole number b n (b + n) else Malformed
+valued s number (Known len start) = if start + len ≤? length s then Whole number start len (start + len) else Malformed
 valued s number Bad = Malformed
 
 -- an element whose tag takes so many bytes: malformed if no tag starts here, or no length follows
@@ -52,64 +54,70 @@ elementBy s at size = if size == 0 then Malformed else valued s (tagNumber s at)
 unfoldable pub elementAt : List ℕ → (at : ℕ) → Element
 elementAt s at = if length s ≤? at then End else elementBy s at (tagSize (byte s at))
 
--- A run as far as it can be read: it ends, or no element starts here, or an element (its tag's number, its value's start and
--- length) and what follows it.
-pub data Run : Type 0 where
-  done : Run
-  broken : Run
-  more : (number start len : ℕ) → Run → Run
+-- An element that was read: its tag's number, and where its value stands. A run: the elements that can be read, and whether they
+-- fill the bytes.
+pub record Tagged : Type 0 where
+  pub number : ℕ
+  pub value : Span
 
--- the run that begins with an element, and goes on behind it
-abbrev pub grow : Element → (ℕ → Run) → Run
-grow (Whole number b n next) on = more number b n (on next)
-grow Malformed on = broken
-grow End on = done
+pub record Run : Type 0 where
+  pub elements : List Tagged
+  pub fills : Bool
 
--- the run from a position on, by at most so many elements
-unfoldable pub runBy : (most : ℕ) → List ℕ → (at : ℕ) → Run
-runBy zero s at = broken
-runBy (suc k) s at = grow (elementAt s at) (λ next. runBy k s next)
+-- an element and the run behind it; or the run ends here, and fills the bytes if they end here
+abbrev pub runOn : Element → (behind : ℕ → Run) → Run
+runOn (Whole number start len next) behind =
+    record { elements = record { number = number; value = record { start = start; len = len } } ∷ behind next .elements; fills = behind next .fills }
+runOn Malformed behind = record { elements = []; fills = false }
+runOn End behind = record { elements = []; fills = true }
 
--- the run from a position on: no run has more elements than bytes
+-- the run from a position on, in at most so many steps; one more than there are bytes is always enough (`run-step`, crate tlv)
+unfoldable pub runBy : (steps : ℕ) → List ℕ → (at : ℕ) → Run
+runBy zero s at = record { elements = []; fills = false }
+runBy (suc steps) s at = runOn (elementAt s at) (λ next. runBy steps s next)
+
 unfoldable pub runAt : List ℕ → (at : ℕ) → Run
 runAt s at = runBy (suc (length s)) s at
 
--- the elements fill the bytes exactly
-unfoldable pub fills : Run → Bool
-fills done = true
-fills broken = false
-fills (more number b n rest) = fills rest
+-- The bytes are a run of elements that fills them exactly, perhaps none.
+unfoldable pub isRun : List ℕ → Bool
+isRun s = runAt s 0 .fills
 
--- the value of the element with this number that occurs n-th, counted from 1; the search ends at the element found
-unfoldable pub nth : Run → (tag occurrence : ℕ) → Found
-nth done tag n = Nothing
-nth broken tag n = Nothing
-nth (more number b l rest) tag n =
-    if number == tag then if n == 1 then At (record { start = b; len = l }) else nth rest tag (n - 1) else nth rest tag n
+-- where the value of the first of these elements stands
+unfoldable pub firstValue : List Tagged → Found
+firstValue [] = Nothing
+firstValue (e ∷ l) = At (e .value)
 
--- Finding an element by tag number (01..7E) and occurrence, in a run of elements.
+-- of these elements, the one with this tag number that occurs so many-th, counted from 1
+unfoldable pub occurring : (tag occurrence : ℕ) → List Tagged → Found
+occurring tag occurrence l = firstValue (drop (occurrence - 1) (keep (λ (e : Tagged). e .number == tag) l))
+
+-- Finding an element by tag number (01..7E) and occurrence, among those that can be read; what follows the element found is not judged.
 unfoldable pub found : List ℕ → (tag occurrence : ℕ) → Found
-found s tag n = if tag == 0 then Nothing else if tag ≤? 0x7E then nth (runAt s 0) tag n else Nothing
+found s tag occurrence =
+    if occurrence == 0 then Nothing else
+    if tag == 0 then Nothing else
+    if 0x7E <? tag then Nothing else occurring tag occurrence (runAt s 0 .elements)
 
 -- the yes or no of a search
 unfoldable pub isFound : Found → Bool
-isFound (At p) = true
+isFound (At value) = true
 isFound Nothing = false
 
 -- the part of the bytes that a search gives: the value found, or the empty part
 unfoldable pub partOf : List ℕ → Found → List ℕ
-partOf s (At p) = take (p .len) (drop (p .start) s)
+partOf s (At value) = take (value .len) (drop (value .start) s)
 partOf s Nothing = []
 
 -- the bytes from a position to the end
 abbrev pub rest : List ℕ → (at : ℕ) → List ℕ
 rest s at = drop at s
 
--- the outer value has this length: it ends where the bytes end, and a run of elements fills it
+-- the outer value has this length: it ends where the bytes end, and is a run of elements
 unfoldable pub outerBy : List ℕ → Len → Outer
-outerBy s (Known n b) =
-    if length s - b == n then
-    if fills (runAt (rest s b) 0) then Tlv (byte s 0) b else outer.Malformed
+outerBy s (Known len start) =
+    if start + len == length s then
+    if isRun (rest s start) then Tlv (byte s 0) start else outer.Malformed
     else outer.Malformed
 outerBy s Bad = outer.Malformed
 

@@ -8,19 +8,19 @@ use rules::Len;
 use rules::Outer;
 use rules::Span;
 ghost use mathlib.Core.Path.{_≡_};
-ghost use Rattle.rules.specs.Bytes.{found, isFound, partOf, runAt, fills, outerOf};
+ghost use Rattle.rules.specs.Bytes.{found, isFound, partOf, isRun, outerOf};
 
 // Looks in a run for the element with this tag number that occurs so many-th, counted from 1; what follows it is not judged.
 pub fn locate(s: &[u8], tag: u16, occurrence: usize) -> Found
     ensures { λ r. ⌜ r ≡ found (now (s .entry)) tag occurrence ⌝ }
 {
+    if occurrence == 0 {
+        return Found::Nothing;
+    }
     if tag == 0 {
         return Found::Nothing;
     }
     if 0x7E < tag {
-        return Found::Nothing;
-    }
-    if occurrence == 0 {
         return Found::Nothing;
     }
     let mut at: usize = 0;
@@ -77,7 +77,7 @@ pub fn has(s: &[u8], tag: u16, occurrence: usize) -> bool
 
 // Whether the bytes are a run of elements that fills them exactly, perhaps of none.
 fn is_run(s: &[u8]) -> bool
-    ensures { λ r. ⌜ r ≡ fills (runAt (now (s .entry)) 0) ⌝ }
+    ensures { λ r. ⌜ r ≡ isRun (now (s .entry)) ⌝ }
 {
     let mut at: usize = 0;
     loop {
@@ -108,7 +108,7 @@ pub fn outer(s: &[u8]) -> Outer
     match l {
         Len::Known { len, next } => {
             let n = len as usize;
-            if s.len() - next != n {
+            if next + n != s.len() {
                 return Outer::Malformed;
             }
             if is_run(&s[next..]) {

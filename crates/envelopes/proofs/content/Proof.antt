@@ -1,10 +1,10 @@
 -- `envelopes::content` gives the part of the bytes that is the handler's content.
 -- Assumes nothing.
 use borrow.Author.Needs.{needs}
-use Rattle.lists.proofs.Picks.{picks, by-call, by-case₁}
-use Rattle.lists.proofs.Parts.{part-rest}
-use Rattle.rules.specs.Envelopes.{envelopeBy, envelopeIn, envelopeOf, badEnvelope, contentIn, contentOf}
-use Rattle.tlv.proofs.Wraps.{by-rest₁, outer-within}
+use Rattle.lists.proofs.Picks.{picks, by-call}
+use Rattle.rules.specs.Envelopes.{envelopeOf, badEnvelope, contentOf}
+use Rattle.tlv.proofs.Wraps.{outer-within}
+use Rattle.envelopes.proofs.Says.{by-tlv, by-malformed}
 use Rattle.envelopes.proofs.Contents.{content-none}
 use Rattle.envelopes.proofs.content.Statement.{statement}
 use Rattle.envelopes.proofs.content.Tie as tie
@@ -34,8 +34,8 @@ slice-aggregate-result : tie.Need-slice-aggregate-result
 slice-aggregate-result c = search needs
 
 returns : tie.Need-returns
-unfolding contentOf contentIn envelopeOf envelopeIn
-returns c = search (picks, by-call badEnvelope, by-case₁ envelopeIn, by-case₁ contentIn, by-rest₁ envelopeBy, part-rest, needs) depth 10
+unfolding contentOf envelopeOf
+returns c = search (picks, by-call badEnvelope, by-tlv, by-malformed, needs) depth 10
 
 sub-result : tie.Need-sub-result
 sub-result c = search (outer-within, needs)
@@ -53,8 +53,8 @@ slice-aggregate-result-2 : tie.Need-slice-aggregate-result-2
 slice-aggregate-result-2 c = search needs
 
 returns-2 : tie.Need-returns-2
-unfolding contentOf contentIn envelopeOf envelopeIn
-returns-2 c = search (picks, by-call badEnvelope, by-case₁ envelopeIn, by-case₁ contentIn, by-rest₁ envelopeBy, part-rest, needs) depth 10
+unfolding contentOf envelopeOf
+returns-2 c = search (picks, by-call badEnvelope, by-tlv, by-malformed, needs) depth 10
 
 returns-3 : tie.Need-returns-3
 returns-3 c = search (content-none, needs)

@@ -1,8 +1,9 @@
 -- `envelopes::download` reads an event download.
 -- Assumes nothing.
 use borrow.Author.Needs.{needs}
-use Rattle.lists.proofs.Picks.{picks, by-case}
-use Rattle.rules.specs.Envelopes.{downloadIn, withDevices, downloadBy}
+use Rattle.lists.proofs.Picks.{picks}
+use Rattle.rules.specs.Envelopes.{envelopeBy, withDevices}
+use Rattle.envelopes.proofs.Says.{by-one, by-other}
 use Rattle.envelopes.proofs.download.Statement.{statement}
 use Rattle.envelopes.proofs.download.Tie as tie
 
@@ -19,16 +20,16 @@ enum-told : tie.Need-enum-told
 enum-told c = search needs
 
 returns : tie.Need-returns
-unfolding downloadIn withDevices downloadBy
-returns c = search (picks, by-case downloadBy, needs) depth 8
+unfolding envelopeBy withDevices
+returns c = search (picks, by-one, by-other, needs) depth 10
 
 returns-2 : tie.Need-returns-2
-unfolding downloadIn withDevices downloadBy
-returns-2 c = search (picks, by-case downloadBy, needs) depth 8
+unfolding envelopeBy withDevices
+returns-2 c = search (picks, by-one, by-other, needs) depth 10
 
 returns-3 : tie.Need-returns-3
-unfolding downloadIn withDevices downloadBy
-returns-3 c = search (picks, by-case downloadBy, needs) depth 8
+unfolding envelopeBy withDevices
+returns-3 c = search (picks, by-one, by-other, needs) depth 10
 
 pub download-spec : {M : Type 1} → statement M
 download-spec =

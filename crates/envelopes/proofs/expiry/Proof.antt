@@ -1,8 +1,9 @@
 -- `envelopes::expiry` reads a timer expiration.
 -- Assumes nothing.
 use borrow.Author.Needs.{needs}
-use Rattle.lists.proofs.Picks.{picks, by-case}
-use Rattle.rules.specs.Envelopes.{expiryIn, withDevices, expiryBy}
+use Rattle.lists.proofs.Picks.{picks}
+use Rattle.rules.specs.Envelopes.{envelopeBy, withDevices}
+use Rattle.envelopes.proofs.Says.{by-one, by-other}
 use Rattle.envelopes.proofs.expiry.Statement.{statement}
 use Rattle.envelopes.proofs.expiry.Tie as tie
 
@@ -19,16 +20,16 @@ enum-told : tie.Need-enum-told
 enum-told c = search needs
 
 returns : tie.Need-returns
-unfolding expiryIn withDevices expiryBy
-returns c = search (picks, by-case expiryBy, needs) depth 8
+unfolding envelopeBy withDevices
+returns c = search (picks, by-one, by-other, needs) depth 10
 
 returns-2 : tie.Need-returns-2
-unfolding expiryIn withDevices expiryBy
-returns-2 c = search (picks, by-case expiryBy, needs) depth 8
+unfolding envelopeBy withDevices
+returns-2 c = search (picks, by-one, by-other, needs) depth 10
 
 returns-3 : tie.Need-returns-3
-unfolding expiryIn withDevices expiryBy
-returns-3 c = search (picks, by-case expiryBy, needs) depth 8
+unfolding envelopeBy withDevices
+returns-3 c = search (picks, by-one, by-other, needs) depth 10
 
 pub expiry-spec : {M : Type 1} → statement M
 expiry-spec =

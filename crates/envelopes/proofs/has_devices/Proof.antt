@@ -17,11 +17,11 @@ enum-told c = search needs
 
 returns : tie.Need-returns
 unfolding isSized
-returns c = search (picks, by-case₁ (λ n f. isSized f n), needs) depth 8
+returns c = search (picks, by-case₁ isSized, needs) depth 8
 
 returns-2 : tie.Need-returns-2
 unfolding isSized
-returns-2 c = search (picks, by-case₁ (λ n f. isSized f n), needs) depth 8
+returns-2 c = search (picks, by-case₁ isSized, needs) depth 8
 
 pub has-devices-spec : {M : Type 1} → statement M
 has-devices-spec = tie.close (tie.spec locate-requires enum-known-f enum-told returns returns-2)

@@ -2,7 +2,7 @@
 -- Assumes nothing.
 use borrow.Author.Needs.{needs}
 use Rattle.lists.proofs.Picks.{picks, by-case}
-use Rattle.rules.specs.Envelopes.{helpBy}
+use Rattle.rules.specs.Envelopes.{helpIn}
 use Rattle.envelopes.proofs.help.Statement.{statement}
 use Rattle.envelopes.proofs.help.Tie as tie
 
@@ -16,16 +16,16 @@ enum-told : tie.Need-enum-told
 enum-told c = search needs
 
 returns : tie.Need-returns
-unfolding helpBy
-returns c = search (picks, by-case helpBy, needs) depth 8
+unfolding helpIn
+returns c = search (picks, by-case helpIn, needs) depth 8
 
 returns-2 : tie.Need-returns-2
-unfolding helpBy
-returns-2 c = search (picks, by-case helpBy, needs) depth 8
+unfolding helpIn
+returns-2 c = search (picks, by-case helpIn, needs) depth 8
 
 returns-3 : tie.Need-returns-3
-unfolding helpBy
-returns-3 c = search (picks, by-case helpBy, needs) depth 8
+unfolding helpIn
+returns-3 c = search (picks, by-case helpIn, needs) depth 8
 
 pub help-spec : {M : Type 1} → statement M
 help-spec =

@@ -1,8 +1,9 @@
 -- `envelopes::instruct` reads a command's value by its type.
 -- Assumes nothing.
 use borrow.Author.Needs.{needs}
-use Rattle.lists.proofs.Picks.{picks, by-case, by-case₁}
-use Rattle.rules.specs.Envelopes.{commandBy, timerBy}
+use Rattle.lists.proofs.Picks.{picks}
+use Rattle.rules.specs.Envelopes.{ofType, commandBy}
+use Rattle.envelopes.proofs.Says.{by-one, by-other}
 use Rattle.envelopes.proofs.instruct.Statement.{statement}
 use Rattle.envelopes.proofs.instruct.Tie as tie
 
@@ -25,20 +26,20 @@ enum-told-2 : tie.Need-enum-told-2
 enum-told-2 c = search needs
 
 returns : tie.Need-returns
-unfolding commandBy timerBy
-returns c = search (picks, by-case₁ commandBy, by-case timerBy, needs) depth 8
+unfolding commandBy ofType
+returns c = search (picks, by-one, by-other, needs) depth 8
 
 returns-2 : tie.Need-returns-2
-unfolding commandBy timerBy
-returns-2 c = search (picks, by-case₁ commandBy, by-case timerBy, needs) depth 8
+unfolding commandBy ofType
+returns-2 c = search (picks, by-one, by-other, needs) depth 8
 
 returns-3 : tie.Need-returns-3
-unfolding commandBy timerBy
-returns-3 c = search (picks, by-case₁ commandBy, by-case timerBy, needs) depth 8
+unfolding commandBy ofType
+returns-3 c = search (picks, by-one, by-other, needs) depth 8
 
 returns-4 : tie.Need-returns-4
-unfolding commandBy timerBy
-returns-4 c = search (picks, by-case₁ commandBy, by-case timerBy, needs) depth 8
+unfolding commandBy ofType
+returns-4 c = search (picks, by-one, by-other, needs) depth 8
 
 pub instruct-spec : {M : Type 1} → statement M
 instruct-spec =

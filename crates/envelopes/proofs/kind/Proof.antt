@@ -2,7 +2,7 @@
 -- Assumes nothing.
 use borrow.Author.Needs.{needs}
 use Rattle.lists.proofs.Picks.{picks, by-case₁}
-use Rattle.rules.specs.Envelopes.{typeBy}
+use Rattle.rules.specs.Envelopes.{typeIn}
 use Rattle.envelopes.proofs.Bytes.{found-second, second-fits}
 use Rattle.envelopes.proofs.kind.Statement.{statement}
 use Rattle.envelopes.proofs.kind.Tie as tie
@@ -23,16 +23,16 @@ enum-told : tie.Need-enum-told
 enum-told c = search needs
 
 returns : tie.Need-returns
-unfolding typeBy
-returns c = search (picks, by-case₁ typeBy, needs) depth 8
+unfolding typeIn
+returns c = search (picks, by-case₁ typeIn, needs) depth 8
 
 returns-2 : tie.Need-returns-2
-unfolding typeBy
-returns-2 c = search (picks, by-case₁ typeBy, needs) depth 8
+unfolding typeIn
+returns-2 c = search (picks, by-case₁ typeIn, needs) depth 8
 
 returns-3 : tie.Need-returns-3
-unfolding typeBy
-returns-3 c = search (picks, by-case₁ typeBy, needs) depth 8
+unfolding typeIn
+returns-3 c = search (picks, by-case₁ typeIn, needs) depth 8
 
 pub kind-spec : {M : Type 1} → statement M
 kind-spec =

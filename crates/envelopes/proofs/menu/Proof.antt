@@ -2,7 +2,8 @@
 -- Assumes nothing.
 use borrow.Author.Needs.{needs}
 use Rattle.lists.proofs.Picks.{picks, by-case₁}
-use Rattle.rules.specs.Envelopes.{menuIn, withDevices, menuBy}
+use Rattle.rules.specs.Envelopes.{envelopeBy, withDevices, selection}
+use Rattle.envelopes.proofs.Says.{by-one, by-other}
 use Rattle.envelopes.proofs.menu.Statement.{statement}
 use Rattle.envelopes.proofs.menu.Tie as tie
 
@@ -31,24 +32,24 @@ enum-told-4 : tie.Need-enum-told-4
 enum-told-4 c = search needs
 
 returns : tie.Need-returns
-unfolding menuIn withDevices menuBy
-returns c = search (picks, by-case₁ (λ h b. menuBy b h), by-case₁ menuBy, needs) depth 8
+unfolding envelopeBy withDevices selection
+returns c = search (picks, by-one, by-other, by-case₁ (λ item h. selection h item), needs) depth 10
 
 returns-2 : tie.Need-returns-2
-unfolding menuIn withDevices menuBy
-returns-2 c = search (picks, by-case₁ (λ h b. menuBy b h), by-case₁ menuBy, needs) depth 8
+unfolding envelopeBy withDevices selection
+returns-2 c = search (picks, by-one, by-other, by-case₁ (λ item h. selection h item), needs) depth 10
 
 returns-3 : tie.Need-returns-3
-unfolding menuIn withDevices menuBy
-returns-3 c = search (picks, by-case₁ (λ h b. menuBy b h), by-case₁ menuBy, needs) depth 8
+unfolding envelopeBy withDevices selection
+returns-3 c = search (picks, by-one, by-other, by-case₁ (λ item h. selection h item), needs) depth 10
 
 returns-4 : tie.Need-returns-4
-unfolding menuIn withDevices menuBy
-returns-4 c = search (picks, by-case₁ (λ h b. menuBy b h), by-case₁ menuBy, needs) depth 8
+unfolding envelopeBy withDevices selection
+returns-4 c = search (picks, by-one, by-other, by-case₁ (λ item h. selection h item), needs) depth 10
 
 returns-5 : tie.Need-returns-5
-unfolding menuIn withDevices menuBy
-returns-5 c = search (picks, by-case₁ (λ h b. menuBy b h), by-case₁ menuBy, needs) depth 8
+unfolding envelopeBy withDevices selection
+returns-5 c = search (picks, by-one, by-other, by-case₁ (λ item h. selection h item), needs) depth 10
 
 pub menu-spec : {M : Type 1} → statement M
 menu-spec =

@@ -2,7 +2,7 @@
 -- Assumes nothing.
 use borrow.Author.Needs.{needs}
 use Rattle.lists.proofs.Picks.{picks, by-case₁}
-use Rattle.rules.specs.Envelopes.{onlyByte}
+use Rattle.rules.specs.Envelopes.{onlyByte, oneByte}
 use Rattle.envelopes.proofs.Bytes.{found-byte}
 use Rattle.envelopes.proofs.only_byte.Statement.{statement}
 use Rattle.envelopes.proofs.only_byte.Tie as tie
@@ -20,15 +20,15 @@ enum-told : tie.Need-enum-told
 enum-told c = search needs
 
 returns : tie.Need-returns
-unfolding onlyByte
+unfolding oneByte onlyByte
 returns c = search (picks, by-case₁ onlyByte, needs) depth 8
 
 returns-2 : tie.Need-returns-2
-unfolding onlyByte
+unfolding oneByte onlyByte
 returns-2 c = search (picks, by-case₁ onlyByte, needs) depth 8
 
 returns-3 : tie.Need-returns-3
-unfolding onlyByte
+unfolding oneByte onlyByte
 returns-3 c = search (picks, by-case₁ onlyByte, needs) depth 8
 
 pub only-byte-spec : {M : Type 1} → statement M

@@ -1,10 +1,10 @@
 -- `envelopes::read_command` gives what the bytes of a command say.
 -- Assumes nothing.
 use borrow.Author.Needs.{needs}
-use Rattle.lists.proofs.Picks.{picks, by-case₁}
-use Rattle.rules.specs.Envelopes.{typeBy, commandBy, commandIn, commandOf}
-use Rattle.rules.specs.Bytes.{found}
-use Rattle.tlv.proofs.Wraps.{outer-within, by-rest}
+use Rattle.lists.proofs.Picks.{picks}
+use Rattle.rules.specs.Envelopes.{commandBy, commandOf}
+use Rattle.tlv.proofs.Wraps.{outer-within}
+use Rattle.envelopes.proofs.Says.{by-tlv, by-malformed}
 use Rattle.envelopes.proofs.read_command.Statement.{statement}
 use Rattle.envelopes.proofs.read_command.Tie as tie
 
@@ -30,16 +30,16 @@ enum-told : tie.Need-enum-told
 enum-told c = search needs
 
 returns : tie.Need-returns
-unfolding commandOf commandIn
-returns c = search (picks, by-case₁ commandIn, by-rest (λ v. commandBy v (typeBy v (found v 0x01 1))), needs) depth 8
+unfolding commandOf commandBy
+returns c = search (picks, by-tlv, by-malformed, needs) depth 8
 
 returns-2 : tie.Need-returns-2
-unfolding commandOf commandIn
-returns-2 c = search (picks, by-case₁ commandIn, by-rest (λ v. commandBy v (typeBy v (found v 0x01 1))), needs) depth 8
+unfolding commandOf commandBy
+returns-2 c = search (picks, by-tlv, by-malformed, needs) depth 8
 
 returns-3 : tie.Need-returns-3
-unfolding commandOf commandIn
-returns-3 c = search (picks, by-case₁ commandIn, by-rest (λ v. commandBy v (typeBy v (found v 0x01 1))), needs) depth 8
+unfolding commandOf commandBy
+returns-3 c = search (picks, by-tlv, by-malformed, needs) depth 8
 
 pub read-command-spec : {M : Type 1} → statement M
 read-command-spec =

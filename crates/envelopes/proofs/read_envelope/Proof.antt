@@ -1,9 +1,9 @@
 -- `envelopes::read_envelope` gives what the bytes of an envelope say.
 -- Assumes nothing.
 use borrow.Author.Needs.{needs}
-use Rattle.lists.proofs.Picks.{picks, by-case₁}
-use Rattle.rules.specs.Envelopes.{envelopeBy, envelopeIn, envelopeOf}
-use Rattle.tlv.proofs.Wraps.{outer-within, by-rest₁}
+use Rattle.rules.specs.Envelopes.{envelopeOf}
+use Rattle.tlv.proofs.Wraps.{outer-within}
+use Rattle.envelopes.proofs.Says.{by-tlv, by-malformed}
 use Rattle.envelopes.proofs.read_envelope.Statement.{statement}
 use Rattle.envelopes.proofs.read_envelope.Tie as tie
 
@@ -29,12 +29,12 @@ enum-told : tie.Need-enum-told
 enum-told c = search needs
 
 returns : tie.Need-returns
-unfolding envelopeOf envelopeIn
-returns c = search (picks, by-case₁ envelopeIn, by-rest₁ envelopeBy, needs) depth 8
+unfolding envelopeOf
+returns c = search (by-tlv, by-malformed, needs)
 
 returns-2 : tie.Need-returns-2
-unfolding envelopeOf envelopeIn
-returns-2 c = search (picks, by-case₁ envelopeIn, by-rest₁ envelopeBy, needs) depth 8
+unfolding envelopeOf
+returns-2 c = search (by-tlv, by-malformed, needs)
 
 pub read-envelope-spec : {M : Type 1} → statement M
 read-envelope-spec =

@@ -5,14 +5,14 @@ use mathlib.Core.Path.{_≡_}
 use lib.ListN.{length}
 use borrow.Author.Needs.{needs}
 use Rattle.lists.proofs.Picks.{picks}
-use Rattle.rules.specs.Bytes.{runAt, nth, found}
+use Rattle.rules.specs.Bytes.{runAt, occurring, found}
 use Rattle.elements.proofs.Ends.{element-falls}
-use Rattle.tlv.proofs.Runs.{run-case₂, nth-zeroth}
+use Rattle.tlv.proofs.Runs.{leftBy, left-case}
 use Rattle.tlv.proofs.locate.Statement.{statement}
 use Rattle.tlv.proofs.locate.Tie as tie
 
 abbrev Inv-loop : tie.InvT-loop
-Inv-loop s tag occurrence at₀ left₀ at left = (1 ≤ left) × (nth (runAt s at) tag left ≡ found s tag occurrence)
+Inv-loop s tag occurrence at₀ left₀ at left = (1 ≤ left) × (occurring tag left (runAt s at .elements) ≡ found s tag occurrence)
 
 abbrev μ-loop : tie.MeasureT-loop
 μ-loop s tag occurrence at₀ left₀ at left = length s - at
@@ -27,7 +27,7 @@ returns-2 c = search (picks, needs)
 
 returns-3 : tie.Need-returns-3 Inv-loop μ-loop
 unfolding found
-returns-3 c = search (picks, nth-zeroth, needs)
+returns-3 c = search (picks, needs)
 
 loop-holds : tie.Need-loop-holds Inv-loop μ-loop
 unfolding found
@@ -46,33 +46,33 @@ loop-less : tie.Need-loop-less Inv-loop μ-loop
 loop-less c = search (element-falls, needs)
 
 loop-again : tie.Need-loop-again Inv-loop μ-loop
-unfolding nth
-loop-again c = (search needs, search (run-case₂ nth, picks, needs) depth 8)
+unfolding leftBy
+loop-again c = (search needs, search (left-case, picks, needs) depth 8)
 
 loop-less-2 : tie.Need-loop-less-2 Inv-loop μ-loop
 loop-less-2 c = search (element-falls, needs)
 
 loop-again-2 : tie.Need-loop-again-2 Inv-loop μ-loop
-unfolding nth
-loop-again-2 c = (search needs, search (run-case₂ nth, picks, needs) depth 8)
+unfolding leftBy
+loop-again-2 c = (search needs, search (left-case, picks, needs) depth 8)
 
 enum-told : tie.Need-enum-told Inv-loop μ-loop
 enum-told c = search needs
 
 returns-4 : tie.Need-returns-4 Inv-loop μ-loop
-unfolding nth
-returns-4 c = search (run-case₂ nth, needs)
+unfolding leftBy
+returns-4 c = search (left-case, needs)
 
 enum-told-2 : tie.Need-enum-told-2 Inv-loop μ-loop
 enum-told-2 c = search needs
 
 returns-5 : tie.Need-returns-5 Inv-loop μ-loop
-unfolding nth
-returns-5 c = search (run-case₂ nth, needs)
+unfolding leftBy
+returns-5 c = search (left-case, needs)
 
 returns-6 : tie.Need-returns-6 Inv-loop μ-loop
-unfolding nth
-returns-6 c = search (run-case₂ nth, picks, needs) depth 8
+unfolding leftBy
+returns-6 c = search (left-case, picks, needs) depth 8
 
 pub locate-spec : {M : Type 1} → statement M
 locate-spec =

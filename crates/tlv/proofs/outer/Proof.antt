@@ -2,15 +2,15 @@
 -- Assumes nothing.
 use borrow.Author.Needs.{needs}
 use Rattle.lists.proofs.Picks.{picks, by-case₁}
-use Rattle.rules.specs.Bytes.{runAt, fills, outerOf, outerBy}
-use Rattle.elements.proofs.Ends.{length-within}
+use Rattle.rules.specs.Bytes.{isRun, outerOf, outerBy}
+use Rattle.elements.proofs.Ends.{length-within, length-fits}
 use Rattle.tlv.proofs.Wraps.{by-rest}
 use Rattle.tlv.proofs.outer.Statement.{statement}
 use Rattle.tlv.proofs.outer.Tie as tie
 
 returns : tie.Need-returns
 unfolding outerOf outerBy
-returns c = search (picks, by-case₁ outerBy, by-rest (λ v. fills (runAt v 0)), needs) depth 8
+returns c = search (picks, by-case₁ outerBy, by-rest isRun, needs) depth 8
 
 length-at-requires : tie.Need-length-at-requires
 length-at-requires c κs = search needs
@@ -21,12 +21,12 @@ enum-known-l c = search needs
 cast-n : tie.Need-cast-n
 cast-n c = search needs
 
-sub-if2 : tie.Need-sub-if2
-sub-if2 c = search (length-within, needs)
+add-if2 : tie.Need-add-if2
+add-if2 c = search (length-fits, needs)
 
 returns-2 : tie.Need-returns-2
 unfolding outerOf outerBy
-returns-2 c = search (picks, by-case₁ outerBy, by-rest (λ v. fills (runAt v 0)), needs) depth 8
+returns-2 c = search (picks, by-case₁ outerBy, by-rest isRun, needs) depth 8
 
 sub-is-run : tie.Need-sub-is-run
 sub-is-run c = search (length-within, needs)
@@ -48,15 +48,15 @@ enum-told c = search needs
 
 returns-3 : tie.Need-returns-3
 unfolding outerOf outerBy
-returns-3 c = search (picks, by-case₁ outerBy, by-rest (λ v. fills (runAt v 0)), needs) depth 8
+returns-3 c = search (picks, by-case₁ outerBy, by-rest isRun, needs) depth 8
 
 returns-4 : tie.Need-returns-4
 unfolding outerOf outerBy
-returns-4 c = search (picks, by-case₁ outerBy, by-rest (λ v. fills (runAt v 0)), needs) depth 8
+returns-4 c = search (picks, by-case₁ outerBy, by-rest isRun, needs) depth 8
 
 returns-5 : tie.Need-returns-5
 unfolding outerOf outerBy
-returns-5 c = search (picks, by-case₁ outerBy, by-rest (λ v. fills (runAt v 0)), needs) depth 8
+returns-5 c = search (picks, by-case₁ outerBy, by-rest isRun, needs) depth 8
 
 pub outer-spec : {M : Type 1} → statement M
 outer-spec =
@@ -66,7 +66,7 @@ outer-spec =
     length-at-requires
     enum-known-l
     cast-n
-    sub-if2
+    add-if2
     returns-2
     sub-is-run
     part-is-run-start
