@@ -18,7 +18,7 @@ use Rattle.lists.proofs.Keyed.{first-less}
 use Rattle.rules.specs.declared.Kind.{Kind}
 use Rattle.rules.specs.declared.Kind.the-variants.{Event, Issuer, Reserved, Unsupported}
 use Rattle.rules.specs.Holds.{Applet, Tables, withApplets, withControl, withEvent, withSelectable}
-use Rattle.rules.specs.Events.{callControl, handlerAvailable, minus, equal?, values, named, kindOf, isControl}
+use Rattle.rules.specs.Events.{callControl, handlerAvailable, minus, supported, hasValue, named, kindOf, isControl}
 use Rattle.rules.specs.Applets.{hasNumber, nobody, present, applet, newcomer, forget, ownedByAnother, register, withRegistration, usedUp}
 use Rattle.rules.specs.Calls.{admin, event, entry, timer, arrival, settled, proactive, systemCommand, install, delete, lock, unlock, setEvent, clearEvent, askEvent, newEntry, changeEntry, enableEntry, disableEntry, allocate, release}
 use Rattle.rules.specs.Refusals.{adminLines, eventLines, lines}
@@ -41,24 +41,24 @@ nothing-marked true v y = refl
 nothing-marked false v y = refl
 
 -- The events of document 01 have places below 20, and so has what an applet keeps.
-pub named-below : (e : ℕ) (l : List ℤ) (v : ℤ) (f : ℕ) → named e l v ≡ Event f → f < e + length l
+pub named-below : {A : Type 0} (p : A → Bool) (e : ℕ) (l : List A) (f : ℕ) → named p e l ≡ Event f → f < e + length l
 unfolding named
-named-below e [] v f q = let z : _≡_ {A = ℕ} 0 1 = cc in absurd (omega arith)
-named-below e (z ∷ l) v f q = go (equal? v z) q (λ r. named-below (suc e) l v f r)
+named-below p e [] f q = let z : _≡_ {A = ℕ} 0 1 = cc in absurd (omega arith)
+named-below p e (x ∷ l) f q = go (p x) q (λ r. named-below p (suc e) l f r)
   where
-    go : (b : Bool) → (if b then Event e else named (suc e) l v) ≡ Event f → (named (suc e) l v ≡ Event f → f < suc e + length l)
+    go : (b : Bool) → (if b then Event e else named p (suc e) l) ≡ Event f → (named p (suc e) l ≡ Event f → f < suc e + length l)
         → f < e + suc (length l)
     go true r i = let z : e ≡ f = cc in omega arith
     go false r i = omega (arith, i r)
 
 below : (v : ℤ) (f : ℕ) → kindOf v ≡ Event f → f < 20
-unfolding kindOf values
+unfolding kindOf
 below v f q = go (ltZ v (minus 128)) (ltZ v (minus 64)) q
   where
-    go : (a b : Bool) → (if a then Reserved else if b then Issuer else named 0 values v) ≡ Event f → f < 20
+    go : (a b : Bool) → (if a then Reserved else if b then Issuer else named (hasValue v) 0 supported) ≡ Event f → f < 20
     go true b r = let z : _≡_ {A = ℕ} 0 1 = cc in absurd (omega arith)
     go false true r = let z : _≡_ {A = ℕ} 0 1 = cc in absurd (omega arith)
-    go false false r = let z : length values ≡ 20 = refl in omega (arith, named-below 0 values v f r)
+    go false false r = omega (arith, named-below (hasValue v) 0 supported f r)
 
 twenty : (t : Tables) → SoundTables t → (n : ℕ) → length (applet t n .events) ≡ 20
 twenty t s n = go (present t n) refl

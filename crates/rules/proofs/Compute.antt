@@ -28,7 +28,7 @@ unfolding text′.ascii text′.digitValue text′.bytesBy text′.bytes
 openText = tt
 
 unfoldable pub openEvents : Unit {0}
-unfolding events′.values events′.codes events′.named events′.kindOf events′.kindOfCode events′.notSupported events′.notToSet events′.isControl
+unfolding events′.codes events′.named events′.kindOf events′.kindOfCode events′.notSupported events′.notToSet events′.isControl
 openEvents = tt
 
 unfoldable pub openBytes : Unit {0}

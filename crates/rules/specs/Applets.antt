@@ -10,7 +10,7 @@ use Rattle.rules.specs.declared.Request.{Request}
 use Rattle.rules.specs.declared.Kind.{Kind}
 use Rattle.rules.specs.declared.Kind.the-variants.{Event, Issuer, Reserved, Unsupported}
 use Rattle.rules.specs.Holds.{Applet, Bounds, Tables, withApplets, withControl, withEvent}
-use Rattle.rules.specs.Events.{callControl, handlerAvailable}
+use Rattle.rules.specs.Events.{supported, callControl, handlerAvailable}
 
 -- The look-up.
 -- an applet number: 1 to 8
@@ -27,7 +27,7 @@ present t n = some? (hasNumber n) (t .applets)
 
 -- registered for nothing
 abbrev pub noEvents : List Bool
-noEvents = replicate 20 false
+noEvents = replicate (length supported) false
 
 abbrev pub nobody : Applet
 nobody =
