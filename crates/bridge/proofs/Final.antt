@@ -9,7 +9,7 @@ use Rattle.rules.specs.Held.{viewRows, viewDesk}
 use Rattle.rules.specs.Calls.{Call, admin, event, entry, timer, arrival, settled, proactive, systemCommand}
 use Rattle.rules.specs.Calls.{setEvent, clearEvent, askEvent, newEntry, changeEntry, enableEntry, disableEntry, allocate, release}
 use Rattle.rules.specs.Step.{step}
-use Rattle.rules.specs.Runs.{after}
+use Rattle.rules.specs.Runs.{cardAfter}
 use Rattle.card.specs.declared.Card.{Card}
 use Rattle.card.specs.View.{view}
 use Rattle.card.specs.Kinds.{Doing, is-admin, is-set, is-clear, is-change, is-enable, is-disable, is-release, is-proactive, Giving, is-new, is-allocate, is-command, Telling, is-ask, Naming, is-arrival, is-settled}
@@ -60,7 +60,7 @@ module _ (c : Card) where
 -- a card that the public functions have left
 module _ {title : List ℕ} {l : List Seen} {c : Card} (w : Watched title l c) where
   on-screen : OnScreen title l c
-  unfolding view viewDesk after
+  unfolding view viewDesk cardAfter
   on-screen =
       record {
         menu = λ e. watched.screen-is-right w .menu (sym (holds-of-it w .session) ∙ e);

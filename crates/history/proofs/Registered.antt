@@ -11,15 +11,15 @@ use lib.ListN.{length, getD}
 use borrow.Author.Tests.{eqb-true, eqb-false, ne-eqb}
 use Rattle.lists.specs.Tests.{if_then_else_, _==_}
 use Rattle.lists.specs.Lists.{Every, first, change}
-use Rattle.lists.proofs.Decided.{clashing, turned}
+use Rattle.lists.proofs.Decided.{clashing}
 use Rattle.lists.proofs.Times.{if-map}
 use Rattle.lists.proofs.Places.{getD-set, getD-blank}
 use Rattle.lists.proofs.Keyed.{first-less}
 use Rattle.rules.specs.declared.Kind.{Kind}
 use Rattle.rules.specs.declared.Kind.the-variants.{Event, Issuer, Reserved, Unsupported}
 use Rattle.rules.specs.Holds.{Applet, Tables, withApplets, withControl, withEvent, withSelectable}
-use Rattle.rules.specs.Events.{callControl, handlerAvailable, minus, supported, hasValue, named, kindOf, isControl}
-use Rattle.rules.specs.Applets.{hasNumber, nobody, present, applet, newcomer, forget, ownedByAnother, register, withRegistration, usedUp}
+use Rattle.rules.specs.Events.{callControl, minus, supported, hasValue, named, kindOf, isControl}
+use Rattle.rules.specs.Applets.{hasNumber, nobody, present, applet, newcomer, forget, ownedByAnother, register, withRegistration}
 use Rattle.rules.specs.Calls.{admin, event, entry, timer, arrival, settled, proactive, systemCommand, install, delete, lock, unlock, setEvent, clearEvent, askEvent, newEntry, changeEntry, enableEntry, disableEntry, allocate, release}
 use Rattle.rules.specs.Refusals.{adminLines, eventLines, lines}
 use Rattle.rules.specs.Step.{adminTables, eventTables, entryTables, timerTables, tablesAfter}
@@ -28,6 +28,7 @@ use Rattle.runs.proofs.Accepted.{accepted as none-holds}
 use Rattle.runs.proofs.Filled.{is-here}
 use Rattle.runs.proofs.Filled as filled
 use Rattle.runs.proofs.Looked.{sound-applet, absent-nobody}
+use Rattle.runs.proofs.Registered.{used-event}
 use Rattle.history.specs.Deeds.{isEvent}
 use Rattle.history.specs.Named.{usesUp, isRegistered}
 use Rattle.history.proofs.Open.{reading}
@@ -96,23 +97,6 @@ register-seen t l m n e Issuer v h b q = nothing-marked (m == n) v (getD (first 
 register-seen t l m n e Reserved v h b q = nothing-marked (m == n) v (getD (first (hasNumber n) nobody (t .applets) .events) e false)
 register-seen t l m n e Unsupported v h b q = nothing-marked (m == n) v (getD (first (hasNumber n) nobody (t .applets) .events) e false)
 
--- what a settled moment leaves of a registration
-used-seen : (x : Applet) (e : ℕ) → length (x .events) ≡ 20
-    → getD (usedUp x .events) e false ≡ (if e == handlerAvailable && x .selectable then false else getD (x .events) e false)
-unfolding usedUp
-used-seen x e l = go (x .selectable)
-  where
-    go : (b : Bool)
-        → getD ((if b then withEvent handlerAvailable false x else x) .events) e false ≡ (if e == handlerAvailable && b then false else getD (x .events) e false)
-    go true =
-        getD-set false (x .events) handlerAvailable e false (omega arith)
-        ∙ rw (turned handlerAvailable e) (sym (plain (e == handlerAvailable) (getD (x .events) e false)))
-      where
-        plain : (c y : Bool) → (if c && true then false else y) ≡ (if c then false else y)
-        plain true y = refl
-        plain false y = refl
-    go false = nothing-marked (e == handlerAvailable) false (getD (x .events) e false)
-
 pub events-kept : Kept (λ t h. (n e : ℕ) → (e == callControl) ≡ false → getD (applet t n .events) e false ≡ isRegistered n e h)
 unfolding tablesAfter adminTables eventTables timerTables applet present newcomer adminLines eventLines lines Every isRegistered usesUp reading
 events-kept m h (admin (install b r)) ok s g n e q =
@@ -152,7 +136,7 @@ events-kept m h (timer (release b k)) ok s g n e q = g .events n e q
 events-kept m h (arrival c) ok s g n e q = g .events n e q
 events-kept m h settled ok s g n e q =
     ap (λ (x : Applet). getD (x .events) e false) (with-used (m .tables .applets) n)
-    ∙ used-seen (applet (m .tables) n) e (twenty (m .tables) (s .sound .tables) n)
+    ∙ used-event (applet (m .tables) n) e
     ∙ rw (g .selectability n, g .events n e q) refl
 events-kept m h (proactive c) ok s g n e q = g .events n e q
 events-kept m h (systemCommand buffer) ok s g n e q = g .events n e q
