@@ -8,34 +8,24 @@ use lib.ListN.{getD, set}
 use borrow.Author.Tests.{eqb-true}
 use Rattle.lists.specs.Tests.{if_then_else_, _==_}
 use Rattle.lists.specs.Tables.{table}
-use Rattle.lists.proofs.Decided.{turned}
 use Rattle.lists.proofs.Keyed.{first-map}
-use Rattle.lists.proofs.Places.{getD-clear}
 use Rattle.lists.proofs.Tables.{table-alike, table-set}
-use Rattle.lists.proofs.Truth.{and-false}
 use Rattle.sets.specs.Sets.{has?, setBoth, setWithout}
 use Rattle.sets.proofs.Bits.{has-set, set-alike}
 use Rattle.rules.specs.Holds.{Applet, withEvent}
 use Rattle.rules.specs.Events.{handlerAvailable}
-use Rattle.rules.specs.Applets.{nobody, usedUp}
+use Rattle.rules.specs.Applets.{nobody, settles, usedUp}
+use Rattle.runs.proofs.Registered.{used-event}
 use Rattle.applets.specs.ByNumber.{at, bare, rollOf, selectableSet, registeredSet, madeTable}
 use Rattle.applets.proofs.Numbers.{roll-same}
 
 -- what it leaves of one applet
 used-kept : {A : Type 0} (g : Applet → A) → ((x : Applet) → g (withEvent handlerAvailable false x) ≡ g x) → (x : Applet) → g (usedUp x) ≡ g x
 unfolding usedUp
-used-kept g same x = go (x .selectable)
+used-kept g same x = go (settles x)
   where
     go : (b : Bool) → g (if b then withEvent handlerAvailable false x else x) ≡ g x
     go true = same x
-    go false = refl
-
-used-event : (x : Applet) (e : ℕ) → getD (usedUp x .events) e false ≡ (if x .selectable && handlerAvailable == e then false else getD (x .events) e false)
-unfolding usedUp
-used-event x e = go (x .selectable)
-  where
-    go : (b : Bool) → getD ((if b then withEvent handlerAvailable false x else x) .events) e false ≡ (if b && handlerAvailable == e then false else getD (x .events) e false)
-    go true = getD-clear false (x .events) handlerAvailable e
     go false = refl
 
 bare-used : (l : List Applet) → map bare (map usedUp l) ≡ map bare l
@@ -61,7 +51,7 @@ module _ (l : List Applet) where
   unfolding registeredSet
   other-used e h =
       set-alike _ _
-      (λ k a b. ap (λ (x : Applet). getD (x .events) e false) (at-used k) ∙ used-event (at l k) e ∙ rw (turned handlerAvailable e, h, and-false (at l k .selectable)) refl)
+      (λ k a b. ap (λ (x : Applet). getD (x .events) e false) (at-used k) ∙ used-event (at l k) e ∙ rw h refl)
 
   -- those who wait and are not called wait on
   abbrev waiting : ℕ
@@ -71,7 +61,7 @@ module _ (l : List Applet) where
   unfolding registeredSet selectableSet
   waiting-used = sym (set-alike _ _ each)
     where
-      either : (w s : Bool) → (w && not (w && s)) ≡ (if s && true then false else w)
+      either : (w s : Bool) → (w && not (w && s)) ≡ (if s then false else w)
       either true true = refl
       either true false = refl
       either false true = refl

@@ -9,7 +9,7 @@ use Rattle.lists.specs.Tables.{table}
 use Rattle.sets.specs.Sets.{setOf}
 use Rattle.rules.specs.declared.Grant.{Grant}
 use Rattle.rules.specs.declared.Roll.{Roll}
-use Rattle.rules.specs.Holds.{Applet, withState}
+use Rattle.rules.specs.Holds.{Applet, document, withState}
 use Rattle.rules.specs.Applets.{hasNumber, nobody, noEvents, inOrder}
 use Rattle.rules.specs.Rows.{noPair}
 
@@ -33,7 +33,7 @@ grantOf x =
       timers = x .limits .timers;
       text = x .limits .text;
       entries = length (x .limits .pairs);
-      pairs = padded 4 noPair (x .limits .pairs);
+      pairs = padded (document .entries) noPair (x .limits .pairs);
     }
 
 -- the roll of a list of applets
@@ -42,9 +42,9 @@ rollOf l =
     record {
       present = setOf (λ n. some? (hasNumber n) l);
       count = length l;
-      age = padded 8 0 (map (λ (x : Applet). x .number) l);
-      order = padded 8 0 (map (λ (x : Applet). x .number) (inOrder l));
-      grants = table 8 (λ i. grantOf (at l (suc i)));
+      age = padded (document .applets) 0 (map (λ (x : Applet). x .number) l);
+      order = padded (document .applets) 0 (map (λ (x : Applet). x .number) (inOrder l));
+      grants = table (document .applets) (λ i. grantOf (at l (suc i)));
     }
 
 -- what a call may change of the applets: the selectable ones, those registered for each event, and how many entries each has made
@@ -55,11 +55,11 @@ unfoldable pub registeredSet : List Applet → (event : ℕ) → ℕ
 registeredSet l e = setOf (λ n. getD (at l n .events) e false)
 
 unfoldable pub madeTable : List Applet → List ℕ
-madeTable l = table 8 (λ i. at l (suc i) .made)
+madeTable l = table (document .applets) (λ i. at l (suc i) .made)
 
 -- the entries made, with another count for a number; as they were outside 1..8
 unfoldable pub madeWith : List ℕ → (number count : ℕ) → List ℕ
-madeWith made n k = table 8 (λ i. if suc i == n then k else getD made i 0)
+madeWith made n k = table (document .applets) (λ i. if suc i == n then k else getD made i 0)
 
 -- the applet with a number and what it was installed with, in a state
 unfoldable pub appletBy : (number : ℕ) → Grant → (made : ℕ) (selectable : Bool) (events : List Bool) → Applet

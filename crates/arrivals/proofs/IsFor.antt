@@ -4,8 +4,7 @@ use Prim.Native.Nat.{ℕ, _≤_, _<_}
 use native.Mathlib.Omega.{arith}
 use mathlib.Core.Path.{_≡_, refl, sym, ap, subst, _∙_}
 use mathlib.Core.Bool.{Bool, true, false}
-use mathlib.Core.List.{List, map}
-use lib.IntN.{pos}
+use mathlib.Core.List.{List}
 use lib.ListN.{getD}
 use borrow.Author.Tests.{ne-eqb}
 use Rattle.lists.specs.Tests.{_==_}
@@ -19,7 +18,7 @@ use Rattle.rules.specs.declared.Kind.the-variants.{Event}
 use Rattle.rules.specs.declared.Envelope.{Envelope}
 use Rattle.rules.specs.declared.Envelope.the-variants.{Menu, Call, Expiry, Unrecognized, Malformed}
 use Rattle.rules.specs.Holds.{Applet, Row, Tables}
-use Rattle.rules.specs.Events.{callControl, unrecognizedEnvelope, codes, kindOfCode}
+use Rattle.rules.specs.Events.{callControl, unrecognizedEnvelope, codes, named, kindOfCode}
 use Rattle.rules.specs.Applets.{registered}
 use Rattle.rules.specs.Timers.{ownerOf}
 use Rattle.rules.specs.Arrivals.{Arrival, event, choice, help, expiry, nothing, download, arrivalOf, wants}
@@ -66,8 +65,8 @@ module _ (t : Tables) where
 -- AN EVENT DOWNLOAD
 -- a place that a code names
 pub code-place : (code place : ℕ) {k : Kind} → k ≡ kindOfCode code → k ≡ Event place → (5 ≤ place) × (place < 18)
-unfolding kindOfCode codes
-code-place code place e v = subst (Among 5 13) (sym e ∙ v) (named-among 5 (map pos codes) (pos code))
+unfolding kindOfCode codes named
+code-place code place e v = subst (Among 5 13) (sym e ∙ v) (named-among (λ (k : ℕ). code == k) 5 codes)
 
 pub code-for
     : (g : List ℕ) (code place : ℕ) {k : Kind} {s : ℕ} → k ≡ kindOfCode code → k ≡ Event place → s ≡ getD g place 0 → ForCode g code s

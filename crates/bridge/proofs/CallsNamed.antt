@@ -21,7 +21,7 @@ use Rattle.rules.specs.Calls.{Call, Answer, Outcome, entry, settled, systemComm
 use Rattle.rules.specs.Desk.{dueCommand, withProfile}
 use Rattle.rules.specs.Step.{arrivalAnswer, arrivalDesk, answer, written, front, outcome, step}
 use Rattle.rules.specs.Beside.{ReadOutcome, menuReader}
-use Rattle.rules.specs.Runs.{after}
+use Rattle.rules.specs.Runs.{cardAfter}
 use Rattle.rules.proofs.OnRefusal.{refused}
 use Rattle.rules.proofs.DueMarks.{first-due}
 use Rattle.card.specs.declared.Card.{Card}
@@ -63,7 +63,7 @@ module _ (title : List ℕ) (calls : List Call) (x : Call) where
 
   -- DEMAND 1
   pub judged : Judged (c title calls) s k
-  unfolding after
+  unfolding cardAfter
   judged =
       record {
         holds = rw (after-seen title calls) (answer-is-the-lowest (m title calls) x .holds);
@@ -90,7 +90,7 @@ module _ (title : List ℕ) (calls : List Call) (x : Call) where
   now n = holds title calls .registered n handlerAvailable (omega arith) refl
 
   then-on : (n : ℕ) → has? (getD (k .registered) handlerAvailable 0) n ≡ hasOneShot n (h title (x ∷ calls))
-  unfolding hasOneShot after
+  unfolding hasOneShot cardAfter
   then-on n = holds title (x ∷ calls) .registered n handlerAvailable (omega arith) refl
 
   used : (n : ℕ) → x ≡ settled → step (m title calls) x .answer .refusal ≡ 0
@@ -135,7 +135,7 @@ module _ (title : List ℕ) (calls : List Call) (x : Call) where
 
   -- DEMAND 2, the menu order
   pub orders : Orders (positionOf (c title calls)) (viewRows (c title calls .rows)) s (viewRows (k .rows))
-  unfolding after AlwaysInUse
+  unfolding cardAfter AlwaysInUse
   orders =
       subst (λ (v : Model). Orders (λ n. nextPair (applet (v .tables) n) .position) (viewRows (c title calls .rows)) s (viewRows (k .rows))) (sym (after-seen title calls))
       (rw (rows-are title calls, rows-are title (x ∷ calls)) record {

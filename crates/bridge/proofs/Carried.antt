@@ -6,7 +6,7 @@ use mathlib.Core.List.{List}
 use Rattle.rules.specs.Holds.{Model}
 use Rattle.rules.specs.Calls.{Call}
 use Rattle.rules.specs.Step.{step}
-use Rattle.rules.specs.Runs.{after}
+use Rattle.rules.specs.Runs.{cardAfter}
 use Rattle.card.specs.declared.Card.{Card}
 use Rattle.card.specs.View.{view, stored}
 use Rattle.history.specs.Histories.{History, accepted}

@@ -8,7 +8,7 @@ use Rattle.rules.specs.Holds.{Model}
 use Rattle.rules.specs.Held.{viewRows, viewDesk}
 use Rattle.rules.specs.Calls.{Call, systemCommand}
 use Rattle.rules.specs.Step.{step}
-use Rattle.rules.specs.Runs.{after}
+use Rattle.rules.specs.Runs.{cardAfter}
 use Rattle.card.specs.declared.Card.{Card}
 use Rattle.card.specs.View.{view}
 use Rattle.card.specs.Replies.{replied}
@@ -32,7 +32,7 @@ taken c x = record { seen = _; card = _; next = call x (replied (step (view c) x
 -- a card that the public functions have left
 module _ {title : List ℕ} {l : List Seen} {c : Card} (w : Watched title l c) where
   on-screen : OnScreen title l c
-  unfolding view viewDesk after
+  unfolding view viewDesk cardAfter
   on-screen =
       record {
         menu = λ e. watched.screen-is-right w .menu (sym (holds-of-it w .session) ∙ e);

@@ -3,7 +3,7 @@ use Prim.Native.Nat.{ℕ}
 use mathlib.Core.Path.{sym, subst}
 use mathlib.Core.List.{List}
 use Rattle.rules.specs.Holds.{Model, document}
-use Rattle.rules.specs.Runs.{after}
+use Rattle.rules.specs.Runs.{cardAfter}
 use Rattle.card.specs.declared.Card.{Card}
 use Rattle.card.specs.View.{view}
 use Rattle.history.specs.Histories.{History, accepted}
@@ -17,5 +17,5 @@ pub screen-is-right : {title : List ℕ} {l : List Seen} {c : Card} → Watched 
 screen-is-right {title} {l} {c} w =
     let s = watched-same w in
     subst (λ (m : Model). ScreenRight title l m (accepted (entriesOf l))) (sym (same-view s))
-    (subst (λ (k : List Seen). ScreenRight title k (after document title (callsOf l)) (accepted (entriesOf l))) (sym (s .seen))
-    (subst (λ (h : History). ScreenRight title (seenOf title (callsOf l)) (after document title (callsOf l)) h) (past-is w) (runs.screen-is-right title (callsOf l))))
+    (subst (λ (k : List Seen). ScreenRight title k (cardAfter document title (callsOf l)) (accepted (entriesOf l))) (sym (s .seen))
+    (subst (λ (h : History). ScreenRight title (seenOf title (callsOf l)) (cardAfter document title (callsOf l)) h) (past-is w) (runs.screen-is-right title (callsOf l))))

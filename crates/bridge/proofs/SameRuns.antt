@@ -8,7 +8,7 @@ use Rattle.rules.specs.Holds.{Model, document}
 use Rattle.rules.specs.Calls.{Call, Answer}
 use Rattle.rules.specs.Step.{step}
 use Rattle.rules.specs.Held.{storedAnswer}
-use Rattle.rules.specs.Runs.{after}
+use Rattle.rules.specs.Runs.{cardAfter}
 use Rattle.card.specs.declared.Card.{Card}
 use Rattle.card.specs.declared.Reply.{Reply}
 use Rattle.card.specs.View.{view, stored, Left}
@@ -40,19 +40,19 @@ next-says {c} (call x r buffer e q) =
 
 -- the card holds the model after these calls, and they are seen as the rules say
 pub record Same (title : List ℕ) (l : List Seen) (c : Card) : Type 0 where
-  pub holds : c ≡ stored (after document title (callsOf l))
+  pub holds : c ≡ stored (cardAfter document title (callsOf l))
   pub seen : l ≡ seenOf title (callsOf l)
 
-pub same-view : {title : List ℕ} {l : List Seen} {c : Card} → Same title l c → view c ≡ after document title (callsOf l)
+pub same-view : {title : List ℕ} {l : List Seen} {c : Card} → Same title l c → view c ≡ cardAfter document title (callsOf l)
 same-view {title} {l} same = ap view (same .holds) ∙ after-seen title (callsOf l)
 
 pub watched-same : {title : List ℕ} {l : List Seen} {c : Card} → Watched title l c → Same title l c
-unfolding freshReply after seenOf
+unfolding freshReply cardAfter seenOf
 watched-same (made r e) = record { holds = ap (λ (r : Reply). r .card) e; seen = refl }
 watched-same {title} (more {l = l} {c = c} {s = s} n w) =
     let same = watched-same w in
     let said = next-says n in
-    let is : view c ≡ after document title (callsOf l) = same-view same in
+    let is : view c ≡ cardAfter document title (callsOf l) = same-view same in
     record {
       holds = said .card ∙ ap (λ (m : Model). stored (step m (s .entry .call) .after)) is;
       seen = ap₂ (λ (t : Seen) (k : List Seen). t ∷ k) (said .seen ∙ ap (λ (m : Model). seenAs (s .entry .call) (step m (s .entry .call))) is) (same .seen);
@@ -62,7 +62,7 @@ watched-same {title} (more {l = l} {c = c} {s = s} n w) =
 pub entries-seen : (title : List ℕ) (calls : List Call) → entriesOf (seenOf title calls) ≡ historyOf title calls
 unfolding seenOf historyOf
 entries-seen title [] = refl
-entries-seen title (c ∷ calls) = ap (λ (h : History). did c (step (after document title calls) c .answer) ∷ h) (entries-seen title calls)
+entries-seen title (c ∷ calls) = ap (λ (h : History). did c (step (cardAfter document title calls) c .answer) ∷ h) (entries-seen title calls)
 
 -- EVERY CARD THAT THE PUBLIC FUNCTIONS HAVE LEFT: the assumption of the next call's contract holds of it, and the history of the accepted
 -- calls is the one that the promises over all runs speak of.

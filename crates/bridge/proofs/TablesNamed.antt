@@ -16,7 +16,7 @@ use Rattle.rules.specs.Held.{viewRows, storedRows, viewDesk, storedDesk}
 use Rattle.rules.specs.Applets.{nobody, present, applet}
 use Rattle.rules.specs.Commands.{shownMenu, menuOf, menuBytes}
 use Rattle.rules.specs.Calls.{Call}
-use Rattle.rules.specs.Runs.{after}
+use Rattle.rules.specs.Runs.{cardAfter}
 use Rattle.rules.proofs.Held.{rows-back, desk-back}
 use Rattle.runs.proofs.Looked.{absent-nobody}
 use Rattle.applets.specs.ByNumber.{at, rollOf, selectableSet, registeredSet}
@@ -47,7 +47,7 @@ nobody-registered e h = table-at 20 (λ i. false) e false h
 -- after these calls, the card in its one form
 module _ (title : List ℕ) (calls : List Call) where
   abbrev pub m : Model
-  m = after document title calls
+  m = cardAfter document title calls
 
   abbrev pub h : History
   h = runs.past title calls

@@ -10,7 +10,7 @@ use Rattle.rules.specs.Holds.{Model, document}
 use Rattle.rules.specs.Calls.{Call}
 use Rattle.rules.specs.Step.{step}
 use Rattle.rules.specs.Beside.{freshCard}
-use Rattle.rules.specs.Runs.{after}
+use Rattle.rules.specs.Runs.{cardAfter}
 use Rattle.rules.specs.Floor.{Order, call as order, noCall, orderOf, obey, obeyed, stepLine}
 use Rattle.card.specs.declared.Card.{Card}
 use Rattle.card.specs.View.{view, stored}
@@ -19,7 +19,7 @@ use Rattle.history.specs.Handed.{Seen}
 use Rattle.toolkit.specs.declared.Made.{Made}
 use Rattle.toolkit.specs.Beside.{madeOf}
 use Rattle.pieces.specs.declared.Run.{Run}
-use Rattle.pieces.specs.Pieces.{cardBy, cardAfter, ObeysAll}
+use Rattle.pieces.specs.Pieces.{cardBy, cardAfter as leftByPiece, ObeysAll}
 use Rattle.bridge.specs.Watched.{callsOf, call, Watched, made, more}
 use Rattle.bridge.specs.Doors.{Doored, withOrder, withRecords, WatchedBy}
 use Rattle.bridge.specs.Doors as doors
@@ -40,8 +40,8 @@ promised-through-doors d = promised (doors-are-watched d)
 -- THE RECORDS of a piece of the floor program's input
 module _ (title : List ℕ) where
   -- one call more
-  one-more : {l : List Seen} {c : Card} → Watched title l c → (x : Call) → WatchedBy title (x ∷ callsOf l) (stored (after document title (x ∷ callsOf l)))
-  unfolding replied after
+  one-more : {l : List Seen} {c : Card} → Watched title l c → (x : Call) → WatchedBy title (x ∷ callsOf l) (stored (cardAfter document title (x ∷ callsOf l)))
+  unfolding replied cardAfter
   one-more {l} {c} w x =
       record {
         seen = _;
@@ -49,11 +49,11 @@ module _ (title : List ℕ) where
         made = refl;
       }
 
-  none-more : {l : List Seen} {c : Card} → Watched title l c → WatchedBy title (callsOf l) (stored (after document title (callsOf l)))
+  none-more : {l : List Seen} {c : Card} → Watched title l c → WatchedBy title (callsOf l) (stored (cardAfter document title (callsOf l)))
   none-more {l} w = record { seen = l; watched = subst (Watched title l) (watched-same w .holds) w; made = refl }
 
   abbrev cardOf : List Call → Model
-  cardOf calls = after document title calls
+  cardOf calls = cardAfter document title calls
 
   -- a record's order, and the card that it leaves
   ordered : {l : List Seen} {c : Card} → Watched title l c → (o : Order) → WatchedBy title (withOrder o (callsOf l)) (stored (cardOf (withOrder o (callsOf l))))
@@ -62,7 +62,7 @@ module _ (title : List ℕ) where
   ordered w noCall = none-more w
 
   order-card : (calls : List Call) (k letter : ℕ) (o : Order) → cardOf (withOrder o calls) ≡ obey k letter (cardOf calls) o .card
-  unfolding withOrder obey obeyed after
+  unfolding withOrder obey obeyed cardAfter
   order-card calls k letter (order x) = refl
   order-card calls k letter noCall = refl
 
@@ -100,6 +100,6 @@ module _ (title : List ℕ) where
 -- A PIECE OBEYED leaves a card that the public functions have left, by the calls that its records make on top of those before; `ObeysAll` is the contract of `obey_all`
 pub piece-is-watched : {title : List ℕ} {l : List Seen} {c : Card} {k : ℕ} (s : List ℕ) {b d : List ℕ} {r : Run}
     → Watched title l c → ObeysAll k (view c) s b d r → WatchedBy title (withRecords (length s) s (callsOf l)) (r .card)
-unfolding cardAfter
+unfolding leftByPiece
 piece-is-watched {title} {l} {c} {k} s w o =
     subst (WatchedBy title (withRecords (length s) s (callsOf l))) (sym (o .card ∙ ap (λ (m : Model). stored (cardBy (length s) k m s)) (same-view (watched-same w)))) (by-records title (length s) k s w)

@@ -20,7 +20,7 @@ use Rattle.rules.specs.Held.{storedRows, storedDesk, storedAnswer}
 use Rattle.rules.specs.Calls.{refusedWith}
 use Rattle.rules.specs.Refusals.{line, lowest}
 use Rattle.rules.specs.Beside.{freshCard, freshBy}
-use Rattle.rules.specs.Runs.{after}
+use Rattle.rules.specs.Runs.{cardAfter}
 use Rattle.refusals.proofs.Calls.{title-short}
 use Rattle.applets.specs.ByNumber.{rollOf, selectableSet, registeredSet, madeTable}
 use Rattle.card.specs.declared.Card.{Card}
@@ -84,5 +84,5 @@ module _ (title : List ℕ) where
 
   -- a fresh card is one that no call was made on
   pub fresh-left : Left (freshReply (freshCard document title) .card)
-  unfolding freshReply after
+  unfolding freshReply cardAfter
   fresh-left = record { title = title; calls = []; is = refl }

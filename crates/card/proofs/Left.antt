@@ -11,7 +11,7 @@ use mathlib.Core.List.{List, _∷_}
 use Rattle.rules.specs.Holds.{Bounds, Model, document}
 use Rattle.rules.specs.Calls.{Call}
 use Rattle.rules.specs.Step.{step}
-use Rattle.rules.specs.Runs.{after}
+use Rattle.rules.specs.Runs.{cardAfter}
 use Rattle.rules.proofs.Bounds.{after-keeps}
 use Rattle.runs.specs.Sound.{Sound}
 use Rattle.runs.proofs.Run.{run-sound}
@@ -20,11 +20,11 @@ use Rattle.card.specs.View.{view, stored, Left}
 use Rattle.card.proofs.Back.{view-stored}
 
 -- what a card that holds what calls leave is read as
-pub after-seen : (title : List ℕ) (calls : List Call) → view (stored (after document title calls)) ≡ after document title calls
-after-seen title calls = view-stored (after document title calls) (run-sound title calls) (after-keeps document title calls)
+pub after-seen : (title : List ℕ) (calls : List Call) → view (stored (cardAfter document title calls)) ≡ cardAfter document title calls
+after-seen title calls = view-stored (cardAfter document title calls) (run-sound title calls) (after-keeps document title calls)
 
 -- what a card that calls have left is read as, and that it is the one form of it
-pub view-left : (c : Card) (l : Left c) → view c ≡ after document (l .title) (l .calls)
+pub view-left : (c : Card) (l : Left c) → view c ≡ cardAfter document (l .title) (l .calls)
 view-left c l = ap view (l .is) ∙ after-seen (l .title) (l .calls)
 
 pub left-form : (c : Card) → Left c → c ≡ stored (view c)
@@ -32,7 +32,7 @@ left-form c l = l .is ∙ sym (ap stored (view-left c l))
 
 -- and one call more leaves such a card again
 pub left-again : (c : Card) (x : Call) → Left c → Left (stored (step (view c) x .after))
-unfolding after
+unfolding cardAfter
 left-again c x l =
     record { title = l .title; calls = x ∷ l .calls; is = ap (λ (m : Model). stored (step m x .after)) (view-left c l) }
 

@@ -15,7 +15,7 @@ use borrow.Author.Tests.{ne-eqb}
 use Rattle.lists.specs.Tests.{if_then_else_}
 use Rattle.rules.specs.declared.Kind.{Kind}
 use Rattle.rules.specs.declared.Kind.the-variants.{Event, Issuer, Reserved, Unsupported}
-use Rattle.rules.specs.Events.{kindOf, values, equal?, named, minus, notSupported, notToSet}
+use Rattle.rules.specs.Events.{supported, hasValue, kindOf, named, minus, notSupported, notToSet}
 use Rattle.rules.specs.Refusals.{line, lowest}
 use Rattle.events.specs.Place.{placeOf}
 
@@ -49,19 +49,19 @@ either : (P : Kind → Type 0) (b : Bool) (k l : Kind) → P k → P l → P (if
 either P true k l p q = p
 either P false k l p q = q
 
-pub named-among : (e : ℕ) (l : List ℤ) (v : ℤ) → Among e (length l) (named e l v)
+pub named-among : {A : Type 0} (p : A → Bool) (e : ℕ) (l : List A) → Among e (length l) (named p e l)
 unfolding named
-named-among e [] v = tt
-named-among e (z ∷ l) v =
-    either (Among e (suc (length l))) (equal? v z) (Event e) (named (suc e) l v) (omega arith, omega arith)
-    (wider e (length l) (named (suc e) l v) (named-among (suc e) l v))
+named-among p e [] = tt
+named-among p e (x ∷ l) =
+    either (Among e (suc (length l))) (p x) (Event e) (named p (suc e) l) (omega arith, omega arith)
+    (wider e (length l) (named p (suc e) l) (named-among p (suc e) l))
 
 -- an event value names one of the 20 places
 pub value-place : (v : ℤ) → Among 0 20 (kindOf v)
-unfolding kindOf values
+unfolding kindOf
 value-place v =
     either (Among 0 20) (ltZ v (minus 128)) Reserved _ tt
-    (either (Among 0 20) (ltZ v (minus 64)) Issuer _ tt (named-among 0 values v))
+    (either (Among 0 20) (ltZ v (minus 64)) Issuer _ tt (named-among (hasValue v) 0 supported))
 
 within : (k : Kind) → Among 0 20 k → placeOf k < 20
 unfolding placeOf

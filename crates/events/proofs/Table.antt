@@ -44,9 +44,9 @@ step true k l n e = absurd (n refl)
 step false k l n e = e
 
 -- so the list names nothing
-pub missed : (w : Width) (v : ℤ) (N : Type 0) (i : ℕ) (zs : List ℤ) → Past w v N zs → named i zs v ≡ Unsupported
+pub missed : (w : Width) (v : ℤ) (N : Type 0) (i : ℕ) (zs : List ℤ) → Past w v N zs → named (equal? v) i zs ≡ Unsupported
 unfolding named
 missed w v N i [] p = refl
 missed w v N i (z ∷ zs) p =
     let M : Type 0 = N × (OneOf (ofZ w z ∷ []) (ofZ w v) → ⊥) in
-    step (equal? v z) (Event i) (named (suc i) zs v) (λ e. kept w v M zs p .1 (ap (ofZ w) (equal-same v z e))) (missed w v M (suc i) zs p)
+    step (equal? v z) (Event i) (named (equal? v) (suc i) zs) (λ e. kept w v M zs p .1 (ap (ofZ w) (equal-same v z e))) (missed w v M (suc i) zs p)

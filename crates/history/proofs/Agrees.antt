@@ -19,7 +19,7 @@ use Rattle.rules.specs.Calls.{Call, Answer, refusedWith, admin, event, entry, t
 use Rattle.rules.specs.Refusals.{refusal}
 use Rattle.rules.specs.Step.{eventAnswer, entryAnswer, timerAnswer, arrivalAnswer, answer, changed, outcome, step}
 use Rattle.rules.specs.Beside.{freshBy, freshCard}
-use Rattle.rules.specs.Runs.{after}
+use Rattle.rules.specs.Runs.{cardAfter}
 use Rattle.rules.proofs.Bounds.{after-keeps}
 use Rattle.runs.proofs.Run.{run-sound}
 use Rattle.history.specs.Histories.{did, History, accepted, stands}
@@ -116,10 +116,10 @@ one-call m h c zero ok s g = subst (Agree (changed m c)) (sym (accepted-more c (
 one-call m h c (suc n) ok s g = subst (Agree m) (sym (accepted-same c n h)) g
 
 -- ANY SEQUENCE OF CALLS on a fresh card, refused ones included.
-pub ground : (title : List ℕ) (calls : List Call) → Ground (after document title calls)
+pub ground : (title : List ℕ) (calls : List Call) → Ground (cardAfter document title calls)
 ground title calls = record { bounds = after-keeps document title calls; sound = run-sound title calls }
 
-pub agrees : (title : List ℕ) (calls : List Call) → Agree (after document title calls) (accepted (historyOf title calls))
-unfolding after freshCard historyOf step accepted keep
+pub agrees : (title : List ℕ) (calls : List Call) → Agree (cardAfter document title calls) (accepted (historyOf title calls))
+unfolding cardAfter freshCard historyOf step accepted keep
 agrees title [] = agree-start _ title
-agrees title (c ∷ calls) = one-call (after document title calls) (historyOf title calls) c (refusal (after document title calls) c) refl (ground title calls) (agrees title calls)
+agrees title (c ∷ calls) = one-call (cardAfter document title calls) (historyOf title calls) c (refusal (cardAfter document title calls) c) refl (ground title calls) (agrees title calls)

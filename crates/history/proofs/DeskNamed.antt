@@ -16,7 +16,7 @@ use Rattle.rules.specs.Calls.{Call, Outcome, numbered, admin, event, entry, tim
 use Rattle.rules.specs.Refusals.{lowest, refusal}
 use Rattle.rules.specs.Step.{arrivalDesk, proactiveDesk, deskAfter, tablesAfter, changed, answer, written, front, outcome, step}
 use Rattle.rules.specs.Beside.{freshBy, freshCard}
-use Rattle.rules.specs.Runs.{after}
+use Rattle.rules.specs.Runs.{cardAfter}
 use Rattle.rules.proofs.DueMarks.{marked-same, first-due, first-handed}
 use Rattle.runs.proofs.Run.{desk-lasts, marked-lasts}
 use Rattle.history.specs.Histories.{History, did, accepted}
@@ -53,7 +53,7 @@ title-kept x c = go (refusal x c)
 
 -- THE TITLE is the one that the card was made with, after any calls.
 pub title-is-the-one-given : (title : List ℕ) (calls : List Call) → m title calls .desk .title ≡ freshCard document title .card .desk .title
-unfolding after
+unfolding cardAfter
 title-is-the-one-given title [] = refl
 title-is-the-one-given title (c ∷ calls) = title-kept (m title calls) c ∙ title-is-the-one-given title calls
 
@@ -90,7 +90,7 @@ profile-fresh (suc k) title = refl
 
 -- THE PROFILE is the last accepted one's first 32 bytes, with zeros behind, after any calls.
 pub profile-is-the-last-one : (title : List ℕ) (calls : List Call) → m title calls .desk .profile ≡ profileNamed (past title calls)
-unfolding after historyOf step freshCard accepted keep profileNamed
+unfolding cardAfter historyOf step freshCard accepted keep profileNamed
 profile-is-the-last-one title [] = profile-fresh _ title
 profile-is-the-last-one title (c ∷ calls) = profile-call (m title calls) (historyOf title calls) c _ (profile-is-the-last-one title calls)
 

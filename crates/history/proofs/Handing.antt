@@ -22,7 +22,7 @@ use Rattle.rules.specs.Calls.{Call, refusedWith, admin, event, entry, timer, ar
 use Rattle.rules.specs.Refusals.{refusal}
 use Rattle.rules.specs.Step.{arrivalDesk, proactiveDesk, deskAfter, tablesAfter, changed, answer, lent, front, written, outcome, step}
 use Rattle.rules.specs.Beside.{freshBy, freshCard}
-use Rattle.rules.specs.Runs.{after}
+use Rattle.rules.specs.Runs.{cardAfter}
 use Rattle.rules.proofs.DueMarks.{first-due, first-handed}
 use Rattle.rules.proofs.Reader.{same-true, accepts, only-written}
 use Rattle.history.specs.Deeds.{isProfile, profiles}
@@ -241,8 +241,8 @@ right-start zero title = record { title = refl; menu = λ s q. absurd (false≢t
 right-start (suc n) title = record { title = refl; menu = λ s q. absurd (false≢true s); events = λ s q. absurd (false≢true s) }
 
 pub right : (title : List ℕ) (calls : List Call)
-    → Right (titleOf title) (after document title calls .tables) (after document title calls .desk) (handedSince (seenOf title calls))
-unfolding after freshCard seenOf step handedSince
+    → Right (titleOf title) (cardAfter document title calls .tables) (cardAfter document title calls .desk) (handedSince (seenOf title calls))
+unfolding cardAfter freshCard seenOf step handedSince
 right title [] = right-start _ title
 right title (c ∷ calls) =
-    one-call (titleOf title) (after document title calls) (seenOf title calls) (ground title calls) (right title calls) c (refusal (after document title calls) c)
+    one-call (titleOf title) (cardAfter document title calls) (seenOf title calls) (ground title calls) (right title calls) c (refusal (cardAfter document title calls) c)

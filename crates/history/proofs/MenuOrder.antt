@@ -27,7 +27,7 @@ use Rattle.rules.specs.Held.{noRow}
 use Rattle.rules.specs.Calls.{Call, admin, event, entry, timer, arrival, settled, proactive, systemCommand, install, delete, lock, unlock, newEntry, changeEntry, enableEntry, disableEntry, allocate, release}
 use Rattle.rules.specs.Refusals.{refusal}
 use Rattle.rules.specs.Step.{adminTables, entryTables, timerTables, tablesAfter, changed, entryAnswer, answer, outcome, step}
-use Rattle.rules.specs.Runs.{after}
+use Rattle.rules.specs.Runs.{cardAfter}
 use Rattle.runs.specs.Sound.{SoundTables}
 use Rattle.runs.proofs.Filled.{new-entry}
 use Rattle.runs.proofs.Looked.{has-its-number}
@@ -149,7 +149,7 @@ module _ (p : ℕ → Bool) where
   -- made, deleted or changed beside them, they stand in the same order after it as before it.
   pub rows-keep-their-order : (title : List ℕ) (stretch calls : List Call) → AlwaysInUse title stretch calls
       → keep p (order (m title (stretch ++ calls) .tables .rows)) ≡ keep p (order (m title calls .tables .rows))
-  unfolding AlwaysInUse after
+  unfolding AlwaysInUse cardAfter
   rows-keep-their-order title [] calls u = refl
   rows-keep-their-order title (c ∷ l) calls u =
       step-order (m title (l ++ calls)) (ground title (l ++ calls) .sound .tables) c (still-there title l calls (u .1)) (u .0)

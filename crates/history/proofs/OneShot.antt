@@ -4,9 +4,9 @@ use Prim.Native.Nat.{ℕ, zero, suc, _<_}
 use native.Mathlib.Omega.{arith}
 use mathlib.Core.Path.{_≡_, refl, ap, _∙_}
 use mathlib.Core.Bool.{Bool, true, false, _&&_, _||_}
-use mathlib.Core.List.{List, [], _∷_, _++_, map}
+use mathlib.Core.List.{List, [], _∷_, _++_}
 use lib.IntN.{pos}
-use Rattle.lists.specs.Tests.{if_then_else_}
+use Rattle.lists.specs.Tests.{if_then_else_, _==_}
 use Rattle.lists.specs.Lists.{count, times}
 use Rattle.lists.proofs.Decided.{same}
 use Rattle.lists.proofs.Times.{if-same}
@@ -15,7 +15,7 @@ use Rattle.rules.specs.declared.Kind.{Kind}
 use Rattle.rules.specs.declared.Kind.the-variants.{Event, Issuer, Reserved, Unsupported}
 use Rattle.rules.specs.declared.Envelope.{Envelope}
 use Rattle.rules.specs.declared.Envelope.the-variants.{Menu, Call as CallControl, Download, Expiry, Unrecognized, Malformed}
-use Rattle.rules.specs.Events.{handlerAvailable, codes, kindOfCode}
+use Rattle.rules.specs.Events.{handlerAvailable, codes, named, kindOfCode}
 use Rattle.rules.specs.Envelopes.{envelopeOf}
 use Rattle.rules.specs.Arrivals.{Arrival, event, choice, help, expiry, nothing, download, arrivalOf, settledArrival}
 use Rattle.rules.specs.Calls.{Call, admin, event as eventCall, entry, timer, arrival, settled, proactive, systemCommand, setEvent, envelope, profile}
@@ -168,8 +168,8 @@ placeOf (expiry k) = 0
 placeOf nothing = 0
 
 download-below : (code : ℕ) (k : Kind) → kindOfCode code ≡ k → placeOf (download k) < 19
-unfolding download kindOfCode codes
-download-below code (Event e) q = omega (arith, named-below 5 (map pos codes) (pos code) e q)
+unfolding download kindOfCode codes named
+download-below code (Event e) q = omega (arith, named-below (λ k. code == k) 5 codes e q)
 download-below code Issuer q = omega arith
 download-below code Reserved q = omega arith
 download-below code Unsupported q = omega arith

@@ -30,7 +30,7 @@ use Rattle.rules.specs.Refusals.{eventLines, lines, refusal}
 use Rattle.rules.specs.Step.{eventAnswer, answer, step}
 use Rattle.rules.proofs.OnRefusal.{refused}
 use Rattle.rules.proofs.DueMarks.{row-self}
-use Rattle.rules.specs.Runs.{after}
+use Rattle.rules.specs.Runs.{cardAfter}
 use Rattle.runs.specs.Sound.{SoundTables}
 use Rattle.runs.proofs.Accepted.{accepted as none-holds}
 use Rattle.runs.proofs.Filled.{is-here}
@@ -57,7 +57,7 @@ past title calls = accepted (historyOf title calls)
 module _ (title : List ℕ) (calls : List Call) where
   -- the card that the calls have left, and their history
   abbrev pub m : Model
-  m = after document title calls
+  m = cardAfter document title calls
 
   abbrev pub h : History
   h = past title calls
@@ -78,8 +78,8 @@ module _ (title : List ℕ) (calls : List Call) where
 
   -- A refused call changes neither the card nor what the history names.
   module _ (c : Call) (n : ℕ) (no-way : step m c .answer .refusal ≡ suc n) where
-    pub refused-call-leaves-the-card : after document title (c ∷ calls) ≡ m
-    unfolding after
+    pub refused-call-leaves-the-card : cardAfter document title (c ∷ calls) ≡ m
+    unfolding cardAfter
     refused-call-leaves-the-card = ap (λ o. o .after) (refused m c n (refuses m c n no-way))
 
     pub refused-call-leaves-the-past : past title (c ∷ calls) ≡ h

@@ -11,15 +11,15 @@ use lib.ListN.{length, getD}
 use borrow.Author.Tests.{eqb-true, eqb-false, ne-eqb}
 use Rattle.lists.specs.Tests.{if_then_else_, _==_}
 use Rattle.lists.specs.Lists.{Every, first, change}
-use Rattle.lists.proofs.Decided.{clashing, turned}
+use Rattle.lists.proofs.Decided.{clashing}
 use Rattle.lists.proofs.Times.{if-map}
 use Rattle.lists.proofs.Places.{getD-set, getD-blank}
 use Rattle.lists.proofs.Keyed.{first-less}
 use Rattle.rules.specs.declared.Kind.{Kind}
 use Rattle.rules.specs.declared.Kind.the-variants.{Event, Issuer, Reserved, Unsupported}
 use Rattle.rules.specs.Holds.{Applet, Tables, withApplets, withControl, withEvent, withSelectable}
-use Rattle.rules.specs.Events.{callControl, handlerAvailable, minus, equal?, values, named, kindOf, isControl}
-use Rattle.rules.specs.Applets.{hasNumber, nobody, present, applet, newcomer, forget, ownedByAnother, register, withRegistration, usedUp}
+use Rattle.rules.specs.Events.{callControl, minus, supported, hasValue, named, kindOf, isControl}
+use Rattle.rules.specs.Applets.{hasNumber, nobody, present, applet, newcomer, forget, ownedByAnother, register, withRegistration}
 use Rattle.rules.specs.Calls.{admin, event, entry, timer, arrival, settled, proactive, systemCommand, install, delete, lock, unlock, setEvent, clearEvent, askEvent, newEntry, changeEntry, enableEntry, disableEntry, allocate, release}
 use Rattle.rules.specs.Refusals.{adminLines, eventLines, lines}
 use Rattle.rules.specs.Step.{adminTables, eventTables, entryTables, timerTables, tablesAfter}
@@ -28,6 +28,7 @@ use Rattle.runs.proofs.Accepted.{accepted as none-holds}
 use Rattle.runs.proofs.Filled.{is-here}
 use Rattle.runs.proofs.Filled as filled
 use Rattle.runs.proofs.Looked.{sound-applet, absent-nobody}
+use Rattle.runs.proofs.Registered.{used-event}
 use Rattle.history.specs.Deeds.{isEvent}
 use Rattle.history.specs.Named.{usesUp, isRegistered}
 use Rattle.history.proofs.Open.{reading}
@@ -41,24 +42,24 @@ nothing-marked true v y = refl
 nothing-marked false v y = refl
 
 -- The events of document 01 have places below 20, and so has what an applet keeps.
-pub named-below : (e : ℕ) (l : List ℤ) (v : ℤ) (f : ℕ) → named e l v ≡ Event f → f < e + length l
+pub named-below : {A : Type 0} (p : A → Bool) (e : ℕ) (l : List A) (f : ℕ) → named p e l ≡ Event f → f < e + length l
 unfolding named
-named-below e [] v f q = let z : _≡_ {A = ℕ} 0 1 = cc in absurd (omega arith)
-named-below e (z ∷ l) v f q = go (equal? v z) q (λ r. named-below (suc e) l v f r)
+named-below p e [] f q = let z : _≡_ {A = ℕ} 0 1 = cc in absurd (omega arith)
+named-below p e (x ∷ l) f q = go (p x) q (λ r. named-below p (suc e) l f r)
   where
-    go : (b : Bool) → (if b then Event e else named (suc e) l v) ≡ Event f → (named (suc e) l v ≡ Event f → f < suc e + length l)
+    go : (b : Bool) → (if b then Event e else named p (suc e) l) ≡ Event f → (named p (suc e) l ≡ Event f → f < suc e + length l)
         → f < e + suc (length l)
     go true r i = let z : e ≡ f = cc in omega arith
     go false r i = omega (arith, i r)
 
 below : (v : ℤ) (f : ℕ) → kindOf v ≡ Event f → f < 20
-unfolding kindOf values
+unfolding kindOf
 below v f q = go (ltZ v (minus 128)) (ltZ v (minus 64)) q
   where
-    go : (a b : Bool) → (if a then Reserved else if b then Issuer else named 0 values v) ≡ Event f → f < 20
+    go : (a b : Bool) → (if a then Reserved else if b then Issuer else named (hasValue v) 0 supported) ≡ Event f → f < 20
     go true b r = let z : _≡_ {A = ℕ} 0 1 = cc in absurd (omega arith)
     go false true r = let z : _≡_ {A = ℕ} 0 1 = cc in absurd (omega arith)
-    go false false r = let z : length values ≡ 20 = refl in omega (arith, named-below 0 values v f r)
+    go false false r = omega (arith, named-below (hasValue v) 0 supported f r)
 
 twenty : (t : Tables) → SoundTables t → (n : ℕ) → length (applet t n .events) ≡ 20
 twenty t s n = go (present t n) refl
@@ -95,23 +96,6 @@ register-seen t l m n e (Event f) v h b q = go (f == callControl) refl
 register-seen t l m n e Issuer v h b q = nothing-marked (m == n) v (getD (first (hasNumber n) nobody (t .applets) .events) e false)
 register-seen t l m n e Reserved v h b q = nothing-marked (m == n) v (getD (first (hasNumber n) nobody (t .applets) .events) e false)
 register-seen t l m n e Unsupported v h b q = nothing-marked (m == n) v (getD (first (hasNumber n) nobody (t .applets) .events) e false)
-
--- what a settled moment leaves of a registration
-used-seen : (x : Applet) (e : ℕ) → length (x .events) ≡ 20
-    → getD (usedUp x .events) e false ≡ (if e == handlerAvailable && x .selectable then false else getD (x .events) e false)
-unfolding usedUp
-used-seen x e l = go (x .selectable)
-  where
-    go : (b : Bool)
-        → getD ((if b then withEvent handlerAvailable false x else x) .events) e false ≡ (if e == handlerAvailable && b then false else getD (x .events) e false)
-    go true =
-        getD-set false (x .events) handlerAvailable e false (omega arith)
-        ∙ rw (turned handlerAvailable e) (sym (plain (e == handlerAvailable) (getD (x .events) e false)))
-      where
-        plain : (c y : Bool) → (if c && true then false else y) ≡ (if c then false else y)
-        plain true y = refl
-        plain false y = refl
-    go false = nothing-marked (e == handlerAvailable) false (getD (x .events) e false)
 
 pub events-kept : Kept (λ t h. (n e : ℕ) → (e == callControl) ≡ false → getD (applet t n .events) e false ≡ isRegistered n e h)
 unfolding tablesAfter adminTables eventTables timerTables applet present newcomer adminLines eventLines lines Every isRegistered usesUp reading
@@ -152,7 +136,7 @@ events-kept m h (timer (release b k)) ok s g n e q = g .events n e q
 events-kept m h (arrival c) ok s g n e q = g .events n e q
 events-kept m h settled ok s g n e q =
     ap (λ (x : Applet). getD (x .events) e false) (with-used (m .tables .applets) n)
-    ∙ used-seen (applet (m .tables) n) e (twenty (m .tables) (s .sound .tables) n)
+    ∙ used-event (applet (m .tables) n) e
     ∙ rw (g .selectability n, g .events n e q) refl
 events-kept m h (proactive c) ok s g n e q = g .events n e q
 events-kept m h (systemCommand buffer) ok s g n e q = g .events n e q

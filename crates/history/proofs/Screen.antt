@@ -15,7 +15,7 @@ use Rattle.rules.specs.Calls.{Call, Answer, proactive, systemCommand, send, res
 use Rattle.rules.specs.Refusals.{refusal}
 use Rattle.rules.specs.Step.{step}
 use Rattle.rules.specs.Beside.{ReadOutcome, menuReader}
-use Rattle.rules.specs.Runs.{after}
+use Rattle.rules.specs.Runs.{cardAfter}
 use Rattle.rules.proofs.DueMarks.{first-due}
 use Rattle.history.specs.Histories.{History}
 use Rattle.history.specs.Named.{rowsNamed, inSession, isOutstanding}
@@ -33,7 +33,7 @@ use Rattle.history.proofs.Sent.{sends-no-menu, sends-no-list}
 module _ (title : List ℕ) (calls : List Call) where
   -- the card that the calls have left, their history, and the calls as they were seen
   abbrev m : Model
-  m = after document title calls
+  m = cardAfter document title calls
 
   abbrev h : History
   h = past title calls

@@ -14,7 +14,7 @@ use Rattle.rules.specs.Commands.{Menu, menuOf, menuBytes, eventBytes, valueOf, 
 use Rattle.rules.specs.Calls.{Call, Outcome}
 use Rattle.rules.specs.Step.{step}
 use Rattle.rules.specs.Beside.{freshCard, menuReader}
-use Rattle.rules.specs.Runs.{after}
+use Rattle.rules.specs.Runs.{cardAfter}
 use Rattle.history.specs.Histories.{Entry, did, History}
 use Rattle.history.specs.Deeds.{profiles}
 use Rattle.history.specs.Named.{isSelectable, oneToEight}
@@ -35,7 +35,7 @@ seen c o = record { entry = did c (o .answer); buffer = o .buffer }
 -- calls on a fresh card with this title, as they are seen; the newest call stands first
 unfoldable pub seenOf : (title : List ℕ) → List Call → List Seen
 seenOf title [] = []
-seenOf title (c ∷ calls) = seen c (step (after document title calls) c) ∷ seenOf title calls
+seenOf title (c ∷ calls) = seen c (step (cardAfter document title calls) c) ∷ seenOf title calls
 
 -- The command that a call handed out: as many bytes from the front of the buffer as its answer says. Often there are none.
 unfoldable pub handed : Seen → List ℕ

@@ -7,7 +7,7 @@ use lib.ListN.{length, take, drop, getD}
 use Rattle.lists.specs.Tests.{if_then_else_, _<?_}
 use Rattle.lists.specs.Lists.{first, count, insertAt}
 use Rattle.rules.specs.declared.Row as held
-use Rattle.rules.specs.Holds.{Row}
+use Rattle.rules.specs.Holds.{Row, document}
 use Rattle.rules.specs.Rows.{hasIdentifier, place}
 use Rattle.rules.specs.Held.{viewRow, storedRow, noRow}
 
@@ -17,7 +17,7 @@ newRow i owner help text = record { identifier = i; owner = owner; text = text; 
 
 -- the rows with a new one at a requested position; a full list stays as it is
 unfoldable pub withRow : (position : ℕ) → Row → List Row → List Row
-withRow p x rows = if length rows <? 12 then insertAt (place p (length rows)) x rows else rows
+withRow p x rows = if length rows <? document .rows then insertAt (place p (length rows)) x rows else rows
 
 -- the row with this identifier; the empty row where there is none
 unfoldable pub rowWith : (identifier : ℕ) → List Row → Row

@@ -9,7 +9,7 @@ use Rattle.rules.specs.Holds.{Model, document}
 use Rattle.rules.specs.Calls.{Call}
 use Rattle.rules.specs.Bytes.{byte}
 use Rattle.rules.specs.Step.{step}
-use Rattle.rules.specs.Runs.{after}
+use Rattle.rules.specs.Runs as runs
 use Rattle.rules.specs.Floor as floor
 use Rattle.rules.specs.Floor.{stepLine, obeyed, orderOf}
 use Rattle.card.specs.declared.Card.{Card}
@@ -20,7 +20,7 @@ use Rattle.pieces.specs.Pieces.{cardBy, cardAfter}
 pub record Reached (m : Model) : Type 0 where
   pub title : List ℕ
   pub calls : List Call
-  pub is : m ≡ after document title calls
+  pub is : m ≡ runs.cardAfter document title calls
 
 pub reached-by-card : (c : Card) → Left c → Reached (view c)
 reached-by-card c l = record { title = l .title; calls = l .calls; is = view-left c l }
@@ -39,7 +39,7 @@ unfolding stepLine floor.obey obeyed
 reached-again k {m} s r = go (orderOf s)
   where
     go : (o : floor.Order) → Reached (floor.obey k (byte s 0) m o .card)
-    go (floor.call x) = unfold after in record { title = r .title; calls = x ∷ r .calls; is = ap (λ (y : Model). step y x .after) (r .is) }
+    go (floor.call x) = unfold runs.cardAfter in record { title = r .title; calls = x ∷ r .calls; is = ap (λ (y : Model). step y x .after) (r .is) }
     go floor.noCall = r
 
 pub reached-all : (n k : ℕ) {m : Model} (s : List ℕ) → Reached m → Reached (cardBy n k m s)

@@ -20,9 +20,9 @@ use Rattle.lists.proofs.Truth.{or-false}
 use Rattle.rules.specs.declared.Row as held
 use Rattle.rules.specs.declared.Rows.{Rows}
 use Rattle.rules.specs.Holds.{Row}
-use Rattle.rules.specs.Rows.{hasIdentifier, inUse, freeFrom, identifierFor}
+use Rattle.rules.specs.Rows.{hasIdentifier, inUse, smallestFree, identifierFor}
 use Rattle.rules.specs.Held.{viewRow, viewRows, TidyRows}
-use Rattle.rules.proofs.Listed.{free-unused}
+use Rattle.rules.proofs.Listed.{freeFrom, smallest-is, from-unused}
 use Rattle.menu.proofs.Tidy.{named, some-viewed, count-is}
 
 -- THE BIT of an identifier
@@ -94,15 +94,16 @@ free-further (suc n) m i l e = let q : suc n + m ≡ suc (n + m) = omega arith i
     go false e f = refl
 
 -- THE FREE IDENTIFIER
-pub free-is : (s : Rows) → TidyRows s → {used : ℕ} → used ≡ usedTo (s .count) (s .at) → trailingZeros 32 (2 ^ 32 - 1 - used) + 128 ≡ freeFrom 127 128 (viewRows s)
+pub free-is : (s : Rows) → TidyRows s → {used : ℕ} → used ≡ usedTo (s .count) (s .at) → trailingZeros 32 (2 ^ 32 - 1 - used) + 128 ≡ smallestFree (viewRows s)
 unfolding viewRow inUse
 free-is s t e =
     ap (λ (k : ℕ). trailingZeros 32 (2 ^ 32 - 1 - k) + 128) (e ∙ bits-alike 32 _ (λ j. inUse (128 + j) (viewRows s)) (λ j h. some-viewed s (hasIdentifier (128 + j))))
     ∙ free-bits 32 128 (viewRows s)
-    ∙ sym (free-further 32 95 128 (viewRows s) (free-unused 32 128 (viewRows s) (omega (arith, count-is s t, t .few))))
+    ∙ sym (free-further 32 95 128 (viewRows s) (from-unused 32 128 (viewRows s) (omega (arith, count-is s t, t .few))))
+    ∙ sym (smallest-is (viewRows s))
 
 -- THE IDENTIFIER of a new row: where 0 is requested the free one, else the requested one
-pub free-for : {requested i : ℕ} (rows : List Row) → requested ≡ 0 → i ≡ freeFrom 127 128 rows → i ≡ identifierFor requested rows
+pub free-for : {requested i : ℕ} (rows : List Row) → requested ≡ 0 → i ≡ smallestFree rows → i ≡ identifierFor requested rows
 unfolding identifierFor
 free-for rows z e = rw z e
 

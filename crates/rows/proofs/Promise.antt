@@ -16,10 +16,9 @@ use Rattle.lists.proofs.Keep.{length-keep}
 use Rattle.lists.proofs.Search.{length-change}
 use Rattle.rules.specs.declared.Rows.{Rows}
 use Rattle.rules.specs.Holds.{Applet, Row}
-use Rattle.rules.specs.Rows.{hasIdentifier, place, inUse, freeFrom, identifierFor, nextPair, nextIdentifier, withEntry, withText, withEnabled, withoutRows}
+use Rattle.rules.specs.Rows.{hasIdentifier, place, inUse, smallestFree, identifierFor, nextPair, nextIdentifier, withEntry, withText, withEnabled, withoutRows}
 use Rattle.rules.specs.Held.{noRow, viewRows, storedRows, TidyRows}
-use Rattle.rules.proofs.Listed as listed
-use Rattle.rules.proofs.Listed.{place-le}
+use Rattle.rules.proofs.Listed.{place-le, free-unused}
 use Rattle.menu.specs.Table.{newRow, withRow, Beside, IdentifiersApart}
 use Rattle.menu.proofs.Tidy.{tidy-stored, count-is}
 
@@ -43,25 +42,12 @@ pub entry-counts : (kind : Row → Bool) (x : Applet) (help : Bool) (text : List
 unfolding withEntry
 entry-counts kind x help text rows = count-insertAt kind (place (nextPair x .position) (length rows)) (newRow (nextIdentifier x rows) (x .number) help text) rows
 
--- The free identifier lies in 128..255, and none below it is free; while there are fewer than 128 rows it is not in use.
-pub free-from : (rows : List Row) → 128 ≤ freeFrom 127 128 rows
-free-from rows = listed.free-from 127 128 rows
-
-pub free-to : (rows : List Row) → freeFrom 127 128 rows ≤ 255
-free-to rows = listed.free-to 127 128 rows
-
-pub free-smallest : (rows : List Row) (i : ℕ) → 128 ≤ i → i < freeFrom 127 128 rows → inUse i rows ≡ true
-free-smallest rows i h f = listed.free-least 127 128 rows i h f
-
-pub free-unused : (rows : List Row) → length rows < 128 → inUse (freeFrom 127 128 rows) rows ≡ false
-free-unused rows h = listed.free-unused 127 128 rows (omega arith)
-
 -- The identifier that a new row gets is not in use, if the requested one is not.
 pub identifier-unused : (requested : ℕ) (rows : List Row) → length rows < 128 → ((requested ≡ 0 → ⊥) → inUse requested rows ≡ false) → inUse (identifierFor requested rows) rows ≡ false
 unfolding identifierFor
 identifier-unused n rows h f = go (n == 0) refl
   where
-    go : (b : Bool) → (n == 0) ≡ b → inUse (if b then freeFrom 127 128 rows else n) rows ≡ false
+    go : (b : Bool) → (n == 0) ≡ b → inUse (if b then smallestFree rows else n) rows ≡ false
     go true e = free-unused rows h
     go false e = f (eqb-false n 0 e)
 

@@ -6,7 +6,7 @@ use lib.ListN.{take}
 use Rattle.lists.specs.Tests.{if_then_else_, _==_}
 use Rattle.lists.specs.Lists.{some?, first, change}
 use Rattle.rules.specs.declared.Pair.{Pair}
-use Rattle.rules.specs.Holds.{Row}
+use Rattle.rules.specs.Holds.{Row, document}
 use Rattle.rules.specs.Rows.{identifierFor}
 use Rattle.rules.specs.Held.{noRow, storedRows}
 use Rattle.menu.specs.Table.{newRow, withRow}
@@ -22,7 +22,7 @@ itsRow n i r = r .identifier == i && r .owner == n
 unfoldable pub enteredBy : Pair → (owner : ℕ) (help : Bool) (text : List ℕ) → List Row → Added
 enteredBy p owner help text rows =
     record {
-      rows = storedRows (withRow (p .position) (newRow (identifierFor (p .identifier) rows) owner help (take 15 text)) rows);
+      rows = storedRows (withRow (p .position) (newRow (identifierFor (p .identifier) rows) owner help (take (document .text) text)) rows);
       identifier = identifierFor (p .identifier) rows;
     }
 
@@ -43,7 +43,7 @@ keptBy p rows = record { rows = storedRows rows; its = some? p rows; turns = fal
 
 -- the applet's row with a help mark and the first 15 bytes of a text; as it was where the text does not fit
 unfoldable pub rewordedBy : (applet identifier : ℕ) (fits help : Bool) (text : List ℕ) → List Row → Turned
-rewordedBy n i fits help text rows = if fits then turnedBy (itsRow n i) (withWords help (take 15 text)) (turnsText help text) rows else keptBy (itsRow n i) rows
+rewordedBy n i fits help text rows = if fits then turnedBy (itsRow n i) (withWords help (take (document .text) text)) (turnsText help text) rows else keptBy (itsRow n i) rows
 
 -- the applet's row enabled, or disabled
 unfoldable pub markedBy : (applet identifier : ℕ) (enabled : Bool) → List Row → Turned

@@ -15,7 +15,7 @@ use Rattle.rules.specs.Calls.{install, delete, lock, unlock, setEvent, c
 use Rattle.rules.specs.Refusals.{refusal}
 use Rattle.rules.specs.Step.{adminTables, eventTables, entryTables, timerTables, tablesAfter, changed, outcome, step}
 use Rattle.rules.specs.Beside.{freshBy, freshCard}
-use Rattle.rules.specs.Runs.{after}
+use Rattle.rules.specs.Runs.{cardAfter}
 
 either : (c : Bool) (x y : Tables) {b : Bounds} → x .bounds ≡ b → y .bounds ≡ b → (if c then x else y) .bounds ≡ b
 either true x y p q = p
@@ -62,7 +62,7 @@ unfolding freshBy
 fresh-has zero b title = refl
 fresh-has (suc n) b title = refl
 
-pub after-keeps : (b : Bounds) (title : List ℕ) (calls : List Call) → after b title calls .tables .bounds ≡ b
-unfolding after freshCard
+pub after-keeps : (b : Bounds) (title : List ℕ) (calls : List Call) → cardAfter b title calls .tables .bounds ≡ b
+unfolding cardAfter freshCard
 after-keeps b title [] = fresh-has _ b title
-after-keeps b title (c ∷ calls) = step-keeps (after b title calls) c ∙ after-keeps b title calls
+after-keeps b title (c ∷ calls) = step-keeps (cardAfter b title calls) c ∙ after-keeps b title calls

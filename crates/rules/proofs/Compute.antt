@@ -1,6 +1,7 @@
 -- One name that opens every definition of the rules: a proof by computation says `unfolding compute`.
 -- Assumes nothing.
 use Rattle.lists.specs.Lists as lists′
+use Rattle.lists.specs.Tables as tables′
 use Rattle.lists.specs.Text as text′
 use Rattle.rules.specs.Events as events′
 use Rattle.rules.specs.Bytes as bytes′
@@ -19,7 +20,7 @@ use Rattle.rules.specs.Floor as floor′
 use Rattle.rules.specs.Held as held′
 
 unfoldable pub openLists : Unit {0}
-unfolding lists′.empty? lists′.some? lists′.every? lists′.Every lists′.keep lists′.count lists′.run lists′.indexOf lists′.first lists′.change lists′.insertBefore lists′.insertAt lists′.sum lists′.gather lists′.alike? lists′.padded lists′.in? lists′.same? lists′.repeats?
+unfolding lists′.empty? lists′.some? lists′.every? lists′.Every lists′.keep lists′.count lists′.run lists′.indexOf lists′.first lists′.change lists′.insertBefore lists′.insertAt lists′.sum lists′.gather lists′.alike? lists′.padded lists′.in? lists′.same? lists′.repeats? tables′.table
 openLists = tt
 
 unfoldable pub openText : Unit {0}
@@ -27,7 +28,7 @@ unfolding text′.ascii text′.digitValue text′.bytesBy text′.bytes
 openText = tt
 
 unfoldable pub openEvents : Unit {0}
-unfolding events′.values events′.codes events′.named events′.kindOf events′.kindOfCode events′.notSupported events′.notToSet events′.isControl
+unfolding events′.codes events′.named events′.kindOf events′.kindOfCode events′.notSupported events′.notToSet events′.isControl
 openEvents = tt
 
 unfoldable pub openBytes : Unit {0}
@@ -43,7 +44,7 @@ unfolding applets′.isNumber applets′.present applets′.applet applets′.lo
 openApplets = tt
 
 unfoldable pub openRows : Unit {0}
-unfolding rows′.place rows′.inUse rows′.freeFrom rows′.identifierFor rows′.nextPair rows′.allMade rows′.badText rows′.nextIdentifier rows′.withEntry rows′.notItsRow rows′.withText rows′.withEnabled rows′.withoutRows
+unfolding rows′.place rows′.inUse rows′.smallestFree rows′.identifierFor rows′.nextPair rows′.allMade rows′.badText rows′.nextIdentifier rows′.withEntry rows′.notItsRow rows′.withText rows′.withEnabled rows′.withoutRows
 openRows = tt
 
 unfoldable pub openTimers : Unit {0}
@@ -75,7 +76,7 @@ unfolding beside′.freshBy beside′.freshCard beside′.readBy beside′.menuR
 openBeside = tt
 
 unfoldable pub openRuns : Unit {0}
-unfolding runs′.after
+unfolding runs′.cardAfter
 openRuns = tt
 
 unfoldable pub openFloor : Unit {0}

@@ -3,12 +3,13 @@
 use Prim.Native.Nat.{ℕ, zero, suc, _+_, _-_, _≤_, _<_}
 use native.Mathlib.Omega.{arith}
 use mathlib.Core.Path.{_≡_, refl, ap, _∙_}
-use mathlib.Core.Bool.{Bool, true, false, _||_}
+use mathlib.Core.Bool.{Bool, true, false, not, _||_}
 use mathlib.Core.List.{List, [], _∷_}
 use lib.ListN.{length}
 use borrow.Author.Tests.{eqb-true, eqb-false, ltb-false, leb-true, le-leb}
 use Rattle.lists.specs.Tests.{if_then_else_, _==_, _<?_, _≤?_}
-use Rattle.lists.specs.Lists.{some?, every?, count}
+use Rattle.lists.specs.Lists.{some?, every?, count, first}
+use Rattle.lists.specs.Tables.{table}
 use Rattle.lists.proofs.Decided.{clashing}
 use Rattle.lists.proofs.Counts.{count-within, count-length}
 use Rattle.lists.proofs.Every.{rises?}
@@ -16,7 +17,7 @@ use Rattle.lists.proofs.Times.{count-insertBefore}
 use Rattle.rules.specs.Holds.{Applet, Row}
 use Rattle.rules.specs.Events.{codes}
 use Rattle.rules.specs.Applets.{inOrder}
-use Rattle.rules.specs.Rows.{hasIdentifier, place, inUse, freeFrom}
+use Rattle.rules.specs.Rows.{hasIdentifier, place, inUse, smallestFree}
 use Rattle.rules.specs.Commands.{lengthBytes}
 
 pub place-le : (p n : ℕ) → place p n ≤ n
@@ -28,30 +29,60 @@ place-le p n = go (p == 0) (n <? p) refl
     go false true e = omega arith
     go false false e = omega (arith, ltb-false n p e)
 
--- the free identifier lies in the range
-pub free-from : (n i : ℕ) (l : List Row) → i ≤ freeFrom n i l
+-- the smallest of i, i + 1 .. i + n that is not in use
+unfoldable pub freeFrom : (n i : ℕ) → List Row → ℕ
+freeFrom zero i rows = i
+freeFrom (suc n) i rows = if inUse i rows then freeFrom n (suc i) rows else i
+
+first-free
+    : (n i last : ℕ) (number : ℕ → ℕ) (rows : List Row) → ((k : ℕ) → number k ≡ i + k) → last ≡ i + n
+    → first (λ j. not (inUse j rows)) last (table (suc n) number) ≡ freeFrom n i rows
+unfolding first table freeFrom
+first-free zero i last number rows h e = go (inUse (number 0) rows)
+  where
+    go : (b : Bool) → (if not b then number 0 else last) ≡ i
+    go true = omega (arith, e)
+    go false = omega (arith, h 0)
+first-free (suc n) i last number rows h e =
+    let here : number 0 ≡ i = omega (arith, h 0) in
+    ap (λ (j : ℕ). if not (inUse j rows) then j else later) here
+    ∙ go (inUse i rows) (first-free n (suc i) last (λ k. number (suc k)) rows (λ k. omega (arith, h (suc k))) (omega (arith, e)))
+  where
+    later : ℕ
+    later = first (λ j. not (inUse j rows)) last (table (suc n) (λ k. number (suc k)))
+
+    go : (b : Bool) → later ≡ freeFrom n (suc i) rows → (if not b then i else later) ≡ (if b then freeFrom n (suc i) rows else i)
+    go true f = f
+    go false f = refl
+
+pub smallest-is : (rows : List Row) → smallestFree rows ≡ freeFrom 127 128 rows
+unfolding smallestFree
+smallest-is rows = first-free 127 128 255 (λ k. 128 + k) rows (λ k. refl) refl
+
+-- it lies in the range
+from-low : (n i : ℕ) (l : List Row) → i ≤ freeFrom n i l
 unfolding freeFrom
-free-from zero i l = omega arith
-free-from (suc n) i l = go (inUse i l) (free-from n (suc i) l)
+from-low zero i l = omega arith
+from-low (suc n) i l = go (inUse i l) (from-low n (suc i) l)
   where
     go : (t : Bool) → suc i ≤ freeFrom n (suc i) l → i ≤ (if t then freeFrom n (suc i) l else i)
     go true f = omega arith
     go false f = omega arith
 
-pub free-to : (n i : ℕ) (l : List Row) → freeFrom n i l ≤ i + n
+from-high : (n i : ℕ) (l : List Row) → freeFrom n i l ≤ i + n
 unfolding freeFrom
-free-to zero i l = omega arith
-free-to (suc n) i l = go (inUse i l) (free-to n (suc i) l)
+from-high zero i l = omega arith
+from-high (suc n) i l = go (inUse i l) (from-high n (suc i) l)
   where
     go : (t : Bool) → freeFrom n (suc i) l ≤ suc i + n → (if t then freeFrom n (suc i) l else i) ≤ i + suc n
     go true f = omega arith
     go false f = omega arith
 
 -- all below it are in use
-pub free-least : (n i : ℕ) (l : List Row) (j : ℕ) → i ≤ j → j < freeFrom n i l → inUse j l ≡ true
+from-least : (n i : ℕ) (l : List Row) (j : ℕ) → i ≤ j → j < freeFrom n i l → inUse j l ≡ true
 unfolding freeFrom
-free-least zero i l j p q = absurd (omega arith)
-free-least (suc n) i l j p q = go (inUse i l) refl q (λ r s. free-least n (suc i) l j r s)
+from-least zero i l j p q = absurd (omega arith)
+from-least (suc n) i l j p q = go (inUse i l) refl q (λ r s. from-least n (suc i) l j r s)
   where
     go : (b : Bool) → inUse i l ≡ b → j < (if b then freeFrom n (suc i) l else i) → (suc i ≤ j → j < freeFrom n (suc i) l → inUse j l ≡ true) → inUse j l ≡ true
     go true e s r = at (j == i) refl
@@ -99,8 +130,21 @@ free-by (suc n) i l e = go (inUse i l) refl (free-by n (suc i) l)
     go true p f = f (omega (arith, used-fewer i l p))
     go false p f = p
 
-pub free-unused : (n i : ℕ) (l : List Row) → length l ≤ n → inUse (freeFrom n i l) l ≡ false
-free-unused n i l h = free-by n i l (omega (arith, count-length (from i) l))
+pub from-unused : (n i : ℕ) (l : List Row) → length l ≤ n → inUse (freeFrom n i l) l ≡ false
+from-unused n i l h = free-by n i l (omega (arith, count-length (from i) l))
+
+-- The free identifier lies in 128..255, and none below it is free; while there are fewer than 128 rows it is not in use.
+pub free-from : (rows : List Row) → 128 ≤ smallestFree rows
+free-from rows = omega (arith, smallest-is rows, from-low 127 128 rows)
+
+pub free-to : (rows : List Row) → smallestFree rows ≤ 255
+free-to rows = omega (arith, smallest-is rows, from-high 127 128 rows)
+
+pub free-smallest : (rows : List Row) (i : ℕ) → 128 ≤ i → i < smallestFree rows → inUse i rows ≡ true
+free-smallest rows i h f = from-least 127 128 rows i h (omega (arith, smallest-is rows))
+
+pub free-unused : (rows : List Row) → length rows < 128 → inUse (smallestFree rows) rows ≡ false
+free-unused rows h = rw (smallest-is rows) (from-unused 127 128 rows (omega arith))
 
 pub length-most : (n : ℕ) → length (lengthBytes n) ≤ 2
 unfolding lengthBytes

@@ -10,7 +10,7 @@ use Rattle.rules.specs.declared.Request.{Request}
 use Rattle.rules.specs.declared.Kind.{Kind}
 use Rattle.rules.specs.declared.Kind.the-variants.{Event, Issuer, Reserved, Unsupported}
 use Rattle.rules.specs.Holds.{Applet, Bounds, Tables, withApplets, withControl, withEvent}
-use Rattle.rules.specs.Events.{callControl, handlerAvailable}
+use Rattle.rules.specs.Events.{supported, callControl, handlerAvailable}
 
 -- The look-up.
 -- an applet number: 1 to 8
@@ -27,7 +27,7 @@ present t n = some? (hasNumber n) (t .applets)
 
 -- registered for nothing
 abbrev pub noEvents : List Bool
-noEvents = replicate 20 false
+noEvents = replicate (length supported) false
 
 abbrev pub nobody : Applet
 nobody =
@@ -119,9 +119,13 @@ register t n Issuer b = t
 register t n Reserved b = t
 register t n Unsupported b = t
 
--- what a settled moment leaves of an applet: the one-shot of a selectable one is used up, that of a locked one stays
+-- a settled moment calls the applet: it is registered to proactive handler available, and selectable
+abbrev pub settles : Applet → Bool
+settles x = getD (x .events) handlerAvailable false && x .selectable
+
+-- what a settled moment leaves of an applet: just those that it calls are unregistered
 unfoldable pub usedUp : Applet → Applet
-usedUp x = if x .selectable then withEvent handlerAvailable false x else x
+usedUp x = if settles x then withEvent handlerAvailable false x else x
 
 -- The order of call: smaller priority number first, and of equal priority the later installed first. The list is in order of
 -- installation, so its first is the oldest: it stands before the first of the others that has a larger number.

@@ -12,7 +12,7 @@ use Rattle.rules.specs.declared.Item as held-item
 use Rattle.rules.specs.declared.Menu as held-menu
 use Rattle.rules.specs.declared.Answer as held-answer
 use Rattle.rules.specs.declared.Rows.{Rows}
-use Rattle.rules.specs.Holds.{Row, Desk}
+use Rattle.rules.specs.Holds.{Row, Desk, document}
 use Rattle.rules.specs.Commands.{Item}
 use Rattle.rules.specs.Calls.{Answer}
 use Rattle.rules.specs.Beside.{ReadOutcome}
@@ -28,7 +28,7 @@ storedRow r =
       owner = r .owner;
       help = r .help;
       enabled = r .enabled;
-      text = padded 15 0 (r .text);
+      text = padded (document .text) 0 (r .text);
       len = length (r .text);
     }
 
@@ -40,11 +40,11 @@ unfoldable pub viewRows : Rows → List Row
 viewRows s = map viewRow (take (s .count) (s .at))
 
 unfoldable pub storedRows : List Row → Rows
-storedRows l = record { at = padded 12 (storedRow noRow) (map storedRow l); count = length l }
+storedRows l = record { at = padded (document .rows) (storedRow noRow) (map storedRow l); count = length l }
 
 -- the table stands in its one form
 pub record TidyRows (s : Rows) : Type 0 where
-  pub few : s .count ≤ 12
+  pub few : s .count ≤ document .rows
   pub form : s ≡ storedRows (viewRows s)
 
 unfoldable pub viewDesk : held-desk.Desk → Desk
@@ -64,22 +64,22 @@ storedDesk d =
       session = d .session;
       outstanding = d .outstanding;
       «title_len» = length (d .title);
-      title = padded 20 0 (d .title);
+      title = padded (document .title) 0 (d .title);
       profile = d .profile;
     }
 
 -- the same for what the menu reader hands back
 unfoldable pub storedItem : Item → held-item.Item
-storedItem i = record { identifier = i .identifier; text = padded 15 0 (i .text); len = length (i .text) }
+storedItem i = record { identifier = i .identifier; text = padded (document .text) 0 (i .text); len = length (i .text) }
 
 unfoldable pub storedMenu : ReadOutcome → held-menu.Menu
 storedMenu o =
     record {
       refusal = o .refusal;
-      title = padded 20 0 (o .menu .title);
+      title = padded (document .title) 0 (o .menu .title);
       «title_len» = length (o .menu .title);
       help = o .menu .help;
-      at = padded 12 (storedItem (record { identifier = 0; text = [] })) (map storedItem (o .menu .items));
+      at = padded (document .rows) (storedItem (record { identifier = 0; text = [] })) (map storedItem (o .menu .items));
       count = length (o .menu .items);
     }
 

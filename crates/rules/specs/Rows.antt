@@ -1,10 +1,11 @@
 -- Rows and identifiers (document 01, "Rows, identifiers, timers").
-use Prim.Native.Nat.{ℕ, zero, suc, _-_}
+use Prim.Native.Nat.{ℕ, _+_, _-_}
 use mathlib.Core.Bool.{Bool, true, not, _&&_, _||_}
 use mathlib.Core.List.{List}
 use lib.ListN.{length, getD}
 use Rattle.lists.specs.Tests.{if_then_else_, _==_, _<?_, _≤?_}
-use Rattle.lists.specs.Lists.{some?, keep, change, insertAt}
+use Rattle.lists.specs.Lists.{some?, keep, first, change, insertAt}
+use Rattle.lists.specs.Tables.{table}
 use Rattle.rules.specs.declared.Pair.{Pair}
 use Rattle.rules.specs.Holds.{Applet, Row}
 use Rattle.rules.specs.Applets.{entries}
@@ -21,14 +22,13 @@ place p n = if p == 0 then n else if n <? p then n else p - 1
 unfoldable pub inUse : ℕ → List Row → Bool
 inUse i rows = some? (hasIdentifier i) rows
 
--- the smallest of i, i + 1 .. i + n that is not in use
-unfoldable pub freeFrom : (n i : ℕ) → List Row → ℕ
-freeFrom zero i rows = i
-freeFrom (suc n) i rows = if inUse i rows then freeFrom n (suc i) rows else i
+-- the smallest of 128..255 not in use (255 if all were, but a card has fewer rows)
+unfoldable pub smallestFree : List Row → ℕ
+smallestFree rows = first (λ i. not (inUse i rows)) 255 (table 128 (λ k. 128 + k))
 
 -- requested identifier 0 takes the smallest of 128..255 not in use
 unfoldable pub identifierFor : (requested : ℕ) → List Row → ℕ
-identifierFor requested rows = if requested == 0 then freeFrom 127 128 rows else requested
+identifierFor requested rows = if requested == 0 then smallestFree rows else requested
 
 abbrev pub noPair : Pair
 noPair = record { position = 0; identifier = 0 }

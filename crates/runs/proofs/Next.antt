@@ -21,7 +21,7 @@ use Rattle.lists.proofs.Sums.{sum-first, sum-both, sum-alike, count-gather}
 use Rattle.rules.specs.declared.Pair.{Pair}
 use Rattle.rules.specs.Holds.{Applet, Row, Tables, withOneMore}
 use Rattle.rules.specs.Applets.{hasNumber, present, applet, nobody, entries, requested}
-use Rattle.rules.specs.Rows.{hasIdentifier, inUse, freeFrom, identifierFor, noPair, nextPair, nextIdentifier}
+use Rattle.rules.specs.Rows.{hasIdentifier, inUse, smallestFree, identifierFor, noPair, nextPair, nextIdentifier}
 use Rattle.rules.specs.Held.{noRow}
 use Rattle.rules.proofs.Listed.{free-unused, free-from, free-to}
 use Rattle.runs.specs.Sound.{SoundRow, SoundTables, served, requests}
@@ -39,13 +39,13 @@ requested-head p l e = rw e refl
 
 -- the two ways to get an identifier: the smallest that is free, or the one requested
 abbrev Given : (requested : ℕ) → List Row → (identifier : ℕ) → Type 0
-Given i rows k = (k ≡ freeFrom 127 128 rows) ⊎ (((i == 0) ≡ false) × (k ≡ i))
+Given i rows k = (k ≡ smallestFree rows) ⊎ (((i == 0) ≡ false) × (k ≡ i))
 
 given : (i : ℕ) (rows : List Row) → Given i rows (identifierFor i rows)
 unfolding identifierFor
 given i rows = go (i == 0) refl
   where
-    go : (t : Bool) → (i == 0) ≡ t → Given i rows (if t then freeFrom 127 128 rows else i)
+    go : (t : Bool) → (i == 0) ≡ t → Given i rows (if t then smallestFree rows else i)
     go true e = inl refl
     go false e = inr (e, refl)
 
@@ -99,7 +99,7 @@ module _ (t : Tables) (s : SoundTables t) where
     abbrev wanted : ℕ
     wanted = nextPair (applet t n) .identifier
 
-    few : length (t .rows) ≤ 127
+    few : length (t .rows) < 128
     few = omega (arith, s .room, entry-room t s n here more)
 
     wanted-to : wanted ≤ 127
@@ -115,7 +115,7 @@ module _ (t : Tables) (s : SoundTables t) where
     next-from = go (given wanted (t .rows))
       where
         go : Given wanted (t .rows) next → 1 ≤ next
-        go (inl z) = omega (arith, free-from 127 128 (t .rows))
+        go (inl z) = omega (arith, free-from (t .rows))
         go (inr z) = omega (arith, z .1, eqb-false wanted 0 (z .0))
 
     pub next-to : next ≤ 255
@@ -123,7 +123,7 @@ module _ (t : Tables) (s : SoundTables t) where
     next-to = go (given wanted (t .rows))
       where
         go : Given wanted (t .rows) next → next ≤ 255
-        go (inl z) = omega (arith, free-to 127 128 (t .rows))
+        go (inl z) = omega (arith, free-to (t .rows))
         go (inr z) = omega (arith, z .1, wanted-to)
 
     -- no row has it
@@ -133,7 +133,7 @@ module _ (t : Tables) (s : SoundTables t) where
       where
         go : Given wanted (t .rows) next → (b : Bool) → inUse next (t .rows) ≡ b → b ≡ false
         go z false e = refl
-        go (inl z) true e = clashing e (rw z (free-unused 127 128 (t .rows) few))
+        go (inl z) true e = clashing e (rw z (free-unused (t .rows) few))
         go (inr z) true e =
             let o = row-served wanted wanted-to (rw (z .1) at e) in
             absurd (apart wanted (o .0) n (o .1) here (o .2) (is-ahead (z .0)))
@@ -144,7 +144,7 @@ module _ (t : Tables) (s : SoundTables t) where
     next-served h = go (given wanted (t .rows))
       where
         go : Given wanted (t .rows) next → in? next (served (withOneMore (applet t n))) ≡ true
-        go (inl z) = absurd (omega (arith, free-from 127 128 (t .rows)))
+        go (inl z) = absurd (omega (arith, free-from (t .rows)))
         go (inr z) =
             rw (
               z .1,

@@ -1,20 +1,23 @@
 -- The event calls, lock, unlock and a settled moment keep the tables sound.
 -- Assumes nothing.
 use Prim.Native.Nat.{ℕ}
-use mathlib.Core.Path.{_≡_, refl}
-use mathlib.Core.Bool.{Bool, true, false}
+use mathlib.Core.Path.{_≡_, refl, ap, _∙_}
+use mathlib.Core.Bool.{Bool, true, false, _&&_}
 use mathlib.Core.Logic.{inr}
 use mathlib.Core.List.{map}
-use lib.ListN.{length-set}
+use lib.ListN.{getD, length-set}
+use borrow.Author.Tests.{eqb-true}
 use Rattle.lists.specs.Tests.{if_then_else_, _==_}
 use Rattle.lists.specs.Lists.{Every, change}
+use Rattle.lists.proofs.Decided.{turned}
 use Rattle.lists.proofs.Matched.{matched-change, matched-map}
 use Rattle.lists.proofs.Ifs.{if-holds}
+use Rattle.lists.proofs.Places.{getD-clear}
 use Rattle.rules.specs.declared.Kind.{Kind}
 use Rattle.rules.specs.declared.Kind.the-variants.{Event, Issuer, Reserved, Unsupported}
 use Rattle.rules.specs.Holds.{Applet, Tables, Model, withApplets, withControl, withSelectable, withEvent}
-use Rattle.rules.specs.Events.{kindOf, callControl}
-use Rattle.rules.specs.Applets.{hasNumber, present, nobody, forget, withRegistration, register, usedUp}
+use Rattle.rules.specs.Events.{kindOf, callControl, handlerAvailable}
+use Rattle.rules.specs.Applets.{hasNumber, present, nobody, forget, withRegistration, register, settles, usedUp}
 use Rattle.rules.specs.Calls.{EventCall, event, setEvent, clearEvent, askEvent}
 use Rattle.rules.specs.Refusals.{lines, eventLines, refusal}
 use Rattle.rules.specs.Step.{eventTables}
@@ -53,7 +56,21 @@ event-sound m (askEvent n v) e g = g
 
 used-same : (x : Applet) → SameApplet x (usedUp x)
 unfolding usedUp
-used-same x = if-holds (SameApplet x) (x .selectable) (λ h. search (event-same, same-self)) (λ h. search (event-same, same-self))
+used-same x = if-holds (SameApplet x) (settles x) (λ h. search (event-same, same-self)) (λ h. search (event-same, same-self))
+
+pub used-event : (x : Applet) (e : ℕ) → getD (usedUp x .events) e false ≡ (if e == handlerAvailable && x .selectable then false else getD (x .events) e false)
+unfolding usedUp
+used-event x e = go (getD (x .events) handlerAvailable false) (x .selectable) (e == handlerAvailable) refl refl
+  where
+    go : (w s b : Bool) → getD (x .events) handlerAvailable false ≡ w → (e == handlerAvailable) ≡ b
+        → getD ((if w && s then withEvent handlerAvailable false x else x) .events) e false ≡ (if b && s then false else getD (x .events) e false)
+    go true true true q z = getD-clear false (x .events) handlerAvailable e ∙ rw (turned handlerAvailable e, z) refl
+    go true true false q z = getD-clear false (x .events) handlerAvailable e ∙ rw (turned handlerAvailable e, z) refl
+    go true false true q z = refl
+    go true false false q z = refl
+    go false true true q z = ap (λ (k : ℕ). getD (x .events) k false) (eqb-true e handlerAvailable z) ∙ q
+    go false false true q z = refl
+    go false s false q z = refl
 
 pub settled-sound : (t : Tables) → SoundTables t → SoundTables (withApplets t (map usedUp (t .applets)))
 settled-sound t g = applets-frame t _ (matched-map SameApplet usedUp used-same (t .applets)) g

@@ -20,7 +20,7 @@ use Rattle.rules.specs.Calls.{Call, admin, event, entry, timer, arrival, settle
 use Rattle.rules.specs.Refusals.{line, lowest, refusal}
 use Rattle.rules.specs.Step.{tablesAfter, arrivalDesk, proactiveDesk, deskAfter, changed, outcome, step}
 use Rattle.rules.specs.Beside.{freshBy, freshCard}
-use Rattle.rules.specs.Runs.{after}
+use Rattle.rules.specs.Runs.{cardAfter}
 use Rattle.rules.proofs.Bounds.{step-keeps}
 use Rattle.runs.specs.Sound.{SoundTables, NobodyOrPresent, Sound, requests}
 use Rattle.runs.proofs.Accepted.{lowest-none}
@@ -132,10 +132,10 @@ step-sound m c s = go (refusal m c) refl
     go (suc n) e = s
 
 -- Any calls, on a card of any bounds, and on the card of document 01.
-pub after-sound : (b : Bounds) → b .rows ≤ 128 → (title : List ℕ) (calls : List Call) → Sound (after b title calls)
-unfolding after
+pub after-sound : (b : Bounds) → b .rows ≤ 128 → (title : List ℕ) (calls : List Call) → Sound (cardAfter b title calls)
+unfolding cardAfter
 after-sound b few title [] = fresh-sound b few title
-after-sound b few title (c ∷ calls) = step-sound (after b title calls) c (after-sound b few title calls)
+after-sound b few title (c ∷ calls) = step-sound (cardAfter b title calls) c (after-sound b few title calls)
 
-pub run-sound : (title : List ℕ) (calls : List Call) → Sound (after document title calls)
+pub run-sound : (title : List ℕ) (calls : List Call) → Sound (cardAfter document title calls)
 run-sound title calls = after-sound document (omega arith) title calls

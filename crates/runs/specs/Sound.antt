@@ -9,6 +9,7 @@ use Rattle.lists.specs.Tests.{_==_}
 use Rattle.lists.specs.Lists.{Every, count, sum, gather, in?}
 use Rattle.rules.specs.declared.Pair.{Pair}
 use Rattle.rules.specs.Holds.{Applet, Row, Bounds, Tables, Model}
+use Rattle.rules.specs.Events.{supported}
 use Rattle.rules.specs.Applets.{hasNumber, present, applet, entries, requested}
 use Rattle.rules.specs.Rows.{hasIdentifier}
 
@@ -22,7 +23,7 @@ pub record SoundApplet (b : Bounds) (x : Applet) : Type 0 where
   pub text : x .limits .text ≤ b .text
   pub identifiers : Every (λ (p : Pair). p .identifier ≤ 127) (x .limits .pairs)
   pub made : x .made ≤ length (x .limits .pairs)
-  pub events : length (x .events) ≡ 20
+  pub events : length (x .events) ≡ length supported
 
 -- the identifiers, other than 0, that an applet requested for the entries it has made
 unfoldable pub served : Applet → List ℕ

@@ -9,12 +9,11 @@ use mathlib.Core.Logic.{⊎-elim}
 use lib.Count.{trailingZeros}
 use Rattle.lists.proofs.Padded.{Open, open-more}
 use Rattle.lists.proofs.Mapped.{map-length}
-use Rattle.rules.specs.Rows.{freeFrom, identifierFor}
+use Rattle.rules.specs.Rows.{smallestFree, identifierFor}
 use Rattle.rules.specs.Held.{storedRow, viewRows}
-use Rattle.rules.proofs.Listed.{place-le}
+use Rattle.rules.proofs.Listed.{place-le, free-to}
 use Rattle.menu.proofs.Tidy.{blank, count-is, long, opens}
 use Rattle.rows.proofs.Free.{usedTo, used-none, used-more, free-is, free-for, own-for}
-use Rattle.rows.proofs.Promise.{free-to}
 use Rattle.rows.proofs.Entry.{entered-full, entered-room}
 use borrow.Author.Needs.{needs}
 use Rattle.rows.proofs.entered.Statement.{statement}
@@ -61,7 +60,7 @@ loop-again c =
     (search needs, used-more (s .args .rows .at) (b .loop .i) _ (omega arith) (b .loop .inv .1) (c .bit-of .ensures))
 
 -- the lowest bit that is clear
-found : (c : tie.After-loop Inv-loop μ-loop Inv-loop2 μ-loop2) → trailingZeros 32 (2 ^ 32 - 1 - c .before .loop .used) + 128 ≡ freeFrom 127 128 (viewRows (c .before .before .before .before .before .before .args .rows))
+found : (c : tie.After-loop Inv-loop μ-loop Inv-loop2 μ-loop2) → trailingZeros 32 (2 ^ 32 - 1 - c .before .loop .used) + 128 ≡ smallestFree (viewRows (c .before .before .before .before .before .before .args .rows))
 found c =
     let b = c .before in
     let a = b .before .before .before .before .before in
