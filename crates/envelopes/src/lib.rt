@@ -6,9 +6,10 @@ use rules::Envelope;
 use rules::Found;
 use rules::Help;
 use rules::Outer;
+use rules::Span;
 ghost use mathlib.Core.Path.{_≡_};
 ghost use Rattle.rules.specs.Bytes.{found};
-ghost use Rattle.rules.specs.Envelopes.{isSized, oneByte, helpIn, envelopeBy, envelopeOf, badEnvelope, contentOf, typeIn, commandBy, commandOf};
+ghost use Rattle.rules.specs.Envelopes.{isSized, oneByte, helpIn, envelopeBy, envelopeOf, badEnvelope, contentAt, contentOf, typeIn, commandBy, commandOf};
 
 // Whether device identities are there, with their two bytes.
 fn has_devices(s: &[u8]) -> bool
@@ -157,20 +158,36 @@ pub fn is_bad(e: Envelope) -> bool
     }
 }
 
-// The handler's content: the part of an envelope after its length; the empty part of one that is refused.
-pub fn content(s: &[u8]) -> &[u8]
-    ensures { λ r. ⌜ now r ≡ contentOf (now (s .entry)) ⌝ }
+// Where the handler's content stands: behind the length, to the end; nowhere in bytes that are refused.
+pub fn content_at(s: &[u8]) -> Found
+    ensures { λ r. ⌜ r ≡ contentAt (now (s .entry)) ⌝ }
 {
     let o = tlv::outer(s);
     match o {
         Outer::Tlv { tag, start } => {
             let e = decide(tag, &s[start..]);
             if is_bad(e) {
-                return &s[..0];
+                return Found::Nothing;
             }
-            &s[start..]
+            let len = s.len() - start;
+            Found::At(Span { start, len })
         }
-        Outer::Malformed => &s[..0],
+        Outer::Malformed => Found::Nothing,
+    }
+}
+
+// The handler's content, a part of the envelope; the empty part where there is none.
+pub fn content(s: &[u8]) -> &[u8]
+    ensures { λ r. ⌜ now r ≡ contentOf (now (s .entry)) ⌝ }
+{
+    let place = content_at(s);
+    match place {
+        Found::At(value) => {
+            let start = value.start;
+            let len = value.len;
+            &s[start..start + len]
+        }
+        Found::Nothing => &s[..0],
     }
 }
 

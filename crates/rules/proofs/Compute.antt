@@ -36,7 +36,7 @@ unfolding bytes′.tagSize bytes′.tagNumber bytes′.longLength bytes′.lengt
 openBytes = tt
 
 unfoldable pub openEnvelopes : Unit {0}
-unfolding envelopes′.isSized envelopes′.onlyByte envelopes′.oneByte envelopes′.withByte envelopes′.withDevices envelopes′.helpIn envelopes′.selection envelopes′.envelopeBy envelopes′.withOuter envelopes′.envelopeOf envelopes′.badEnvelope envelopes′.contentOf envelopes′.typeIn envelopes′.ofType envelopes′.commandBy envelopes′.commandOf envelopes′.badCommand envelopes′.systemType
+unfolding envelopes′.isSized envelopes′.onlyByte envelopes′.oneByte envelopes′.withByte envelopes′.withDevices envelopes′.helpIn envelopes′.selection envelopes′.envelopeBy envelopes′.withOuter envelopes′.envelopeOf envelopes′.badEnvelope envelopes′.behindLength envelopes′.contentAt envelopes′.contentOf envelopes′.typeIn envelopes′.ofType envelopes′.commandBy envelopes′.commandOf envelopes′.badCommand envelopes′.systemType
 openEnvelopes = tt
 
 unfoldable pub openApplets : Unit {0}

@@ -1,16 +1,15 @@
 -- What a caller in C gets of the calls beside the card.
-use Prim.Native.Nat.{ℕ, _-_}
+use Prim.Native.Nat.{ℕ}
 use mathlib.Core.Path.{_≡_}
 use mathlib.Core.Bool.{true, false}
 use mathlib.Core.List.{List}
-use lib.ListN.{length}
 use Rattle.rules.specs.declared.Found.{Found}
 use Rattle.rules.specs.declared.Found.the-variants.{At, Nothing}
 use Rattle.rules.specs.declared.Menu.{Menu}
 use Rattle.rules.specs.Holds.{document}
 use Rattle.rules.specs.Held.{storedMenu}
 use Rattle.rules.specs.Bytes.{found}
-use Rattle.rules.specs.Envelopes.{contentOf}
+use Rattle.rules.specs.Envelopes.{contentAt}
 use Rattle.rules.specs.Beside.{FreshOutcome, freshCard, menuReader}
 use Rattle.card.specs.View.{stored}
 use Rattle.toolkit.specs.declared.Made.{Made}
@@ -20,14 +19,10 @@ use Rattle.toolkit.specs.declared.Spot.{Spot}
 unfoldable pub madeOf : FreshOutcome → Made
 madeOf o = record { card = stored (o .card); refusal = o .refusal }
 
--- where an element's value stands; nowhere, an empty part
+-- where something was found; nowhere, an empty part
 unfoldable pub spotOf : Found → Spot
 spotOf (At span) = record { start = span .start; len = span .len; there = true }
 spotOf Nothing = record { start = 0; len = 0; there = false }
-
--- the handler's content is the end of the envelope
-unfoldable pub contentSpot : List ℕ → Spot
-contentSpot b = record { start = length b - length (contentOf b); len = length (contentOf b); there = true }
 
 -- The contracts of the doors: a fresh card with a title; an element of a run; the content of an envelope; a menu command
 abbrev pub Makes : (title : List ℕ) → Made → Type 0
@@ -37,7 +32,7 @@ abbrev pub Finds : (run : List ℕ) (tag occurrence : ℕ) → Spot → Type 0
 Finds run tag occurrence spot = spot ≡ spotOf (found run tag occurrence)
 
 abbrev pub FindsContent : (envelope : List ℕ) → Spot → Type 0
-FindsContent envelope spot = spot ≡ contentSpot envelope
+FindsContent envelope spot = spot ≡ spotOf (contentAt envelope)
 
 abbrev pub ReadsMenu : (bytes : List ℕ) → Menu → Type 0
 ReadsMenu bytes menu = menu ≡ storedMenu (menuReader document bytes)

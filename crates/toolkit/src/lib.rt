@@ -8,7 +8,8 @@ use rules::Bank;
 use rules::Found;
 use rules::Menu;
 ghost use Rattle.timers.specs.Promises.{Allocates, Releases};
-ghost use Rattle.toolkit.specs.Beside.{Makes, Finds, FindsContent, ReadsMenu};
+ghost use mathlib.Core.Path.{_≡_};
+ghost use Rattle.toolkit.specs.Beside.{spotOf, Makes, Finds, FindsContent, ReadsMenu};
 
 // A fresh card, and the refusal's number (0: none).
 #[repr(C)]
@@ -39,12 +40,10 @@ pub extern "C" fn toolkit_fresh(title: &[u8]) -> Made
     }
 }
 
-// Where the value of an element stands in a run.
-#[no_mangle]
-pub extern "C" fn toolkit_find(run: &[u8], tag: u16, occurrence: usize) -> Spot
-    ensures { λ r. ⌜ Finds (now (run .entry)) tag occurrence r ⌝ }
+// Where something was found, as C gets it.
+fn spot_of(place: Found) -> Spot
+    ensures { λ r. ⌜ r ≡ spotOf place ⌝ }
 {
-    let place = tlv::locate(run, tag, occurrence);
     match place {
         Found::At(value) => Spot {
             start: value.start,
@@ -59,18 +58,20 @@ pub extern "C" fn toolkit_find(run: &[u8], tag: u16, occurrence: usize) -> Spot
     }
 }
 
-// Where the handler's content stands in an envelope, at its end; nowhere where the envelope is malformed.
+// Where the value of an element stands in a run.
+#[no_mangle]
+pub extern "C" fn toolkit_find(run: &[u8], tag: u16, occurrence: usize) -> Spot
+    ensures { λ r. ⌜ Finds (now (run .entry)) tag occurrence r ⌝ }
+{
+    spot_of(tlv::locate(run, tag, occurrence))
+}
+
+// Where the handler's content stands in an envelope; nowhere where the envelope is malformed.
 #[no_mangle]
 pub extern "C" fn toolkit_content(envelope: &[u8]) -> Spot
     ensures { λ r. ⌜ FindsContent (now (envelope .entry)) r ⌝ }
 {
-    let part = envelopes::content(envelope);
-    let len = part.len();
-    Spot {
-        start: envelope.len() - len,
-        len,
-        there: true,
-    }
+    spot_of(envelopes::content_at(envelope))
 }
 
 // The title, the help mark and the items of a menu command.

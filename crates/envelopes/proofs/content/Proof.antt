@@ -1,81 +1,60 @@
 -- `envelopes::content` gives the part of the bytes that is the handler's content.
 -- Assumes nothing.
+use native.Mathlib.Nat.{add-sub-cancel-left}
+use Rattle.lists.proofs.Picks.{by-case₁}
+use Rattle.rules.specs.Bytes.{partOf}
+use Rattle.rules.specs.Envelopes.{contentOf}
+use Rattle.envelopes.proofs.Contents.{content-inside, content-fits}
 use borrow.Author.Needs.{needs}
-use Rattle.lists.proofs.Picks.{picks, by-call}
-use Rattle.rules.specs.Envelopes.{envelopeOf, badEnvelope, contentOf}
-use Rattle.tlv.proofs.Wraps.{outer-within}
-use Rattle.envelopes.proofs.Says.{by-tlv, by-malformed}
-use Rattle.envelopes.proofs.Contents.{content-none}
 use Rattle.envelopes.proofs.content.Statement.{statement}
 use Rattle.envelopes.proofs.content.Tie as tie
+use Rattle.envelopes.proofs.content.Reads as reads
+use Rattle.envelopes.proofs.content.Lts as lts
+use Rattle.envelopes.proofs.content_at.Reads as content-at-reads
 
-outer-requires : tie.Need-outer-requires
-outer-requires c κs = search needs
+content-at-requires : tie.Need-content-at-requires
+content-at-requires c κs = search needs
 
-enum-known-o : tie.Need-enum-known-o
-enum-known-o c = search needs
+enum-known-place : tie.Need-enum-known-place
+enum-known-place c = search needs
 
-sub-decide : tie.Need-sub-decide
-sub-decide c = search (outer-within, needs)
+add-result : tie.Need-add-result
+add-result c = search (content-fits, needs)
 
-part-decide-start : tie.Need-part-decide-start
-part-decide-start c = search (outer-within, needs)
+sub-result : tie.Need-sub-result
+sub-result c = search needs
 
-part-decide-end : tie.Need-part-decide-end
-part-decide-end c = search needs
+part-result-start : tie.Need-part-result-start
+part-result-start c = search needs
 
-decide-requires : tie.Need-decide-requires
-decide-requires c κs = search needs
+part-result-end : tie.Need-part-result-end
+part-result-end c = search (content-inside, needs)
 
-is-bad-requires : tie.Need-is-bad-requires
-is-bad-requires c κs = search needs
+enum-told : tie.Need-enum-told
+enum-told c = search needs
 
 slice-aggregate-result : tie.Need-slice-aggregate-result
 slice-aggregate-result c = search needs
 
 returns : tie.Need-returns
-unfolding contentOf envelopeOf
-returns c = search (picks, by-call badEnvelope, by-tlv, by-malformed, needs) depth 10
-
-sub-result : tie.Need-sub-result
-sub-result c = search (outer-within, needs)
-
-part-result-start : tie.Need-part-result-start
-part-result-start c = search (outer-within, needs)
-
-part-result-end : tie.Need-part-result-end
-part-result-end c = search needs
-
-enum-told : tie.Need-enum-told
-enum-told c = search needs
-
-slice-aggregate-result-2 : tie.Need-slice-aggregate-result-2
-slice-aggregate-result-2 c = search needs
+unfolding contentOf partOf
+returns c = search (by-case₁ partOf, add-sub-cancel-left, needs)
 
 returns-2 : tie.Need-returns-2
-unfolding contentOf envelopeOf
-returns-2 c = search (picks, by-call badEnvelope, by-tlv, by-malformed, needs) depth 10
-
-returns-3 : tie.Need-returns-3
-returns-3 c = search (content-none, needs)
+unfolding contentOf partOf
+returns-2 c = search (by-case₁ partOf, needs)
 
 pub content-spec : {M : Type 1} → statement M
 content-spec =
     tie.close
     (tie.spec
-    outer-requires
-    enum-known-o
-    sub-decide
-    part-decide-start
-    part-decide-end
-    decide-requires
-    is-bad-requires
-    slice-aggregate-result
-    returns
+    content-at-requires
+    enum-known-place
+    add-result
     sub-result
     part-result-start
     part-result-end
     enum-told
-    slice-aggregate-result-2
-    returns-2
-    returns-3)
+    slice-aggregate-result
+    returns
+    returns-2)
