@@ -8,7 +8,6 @@ use Rattle.lists.specs.Tests.{if_then_else_, _==_}
 use Rattle.rules.specs.declared.Command.the-variants.{Plain}
 use Rattle.rules.specs.Holds.{Desk, Model}
 use Rattle.rules.specs.Envelopes.{commandOf, badCommand, systemType}
-use Rattle.rules.specs.Applets.{present}
 use Rattle.rules.specs.Desk.{withOutstanding}
 use Rattle.rules.specs.Calls.{Outcome, only, proactive, send, response}
 use Rattle.rules.specs.Refusals.{lowest, absent, foreignTimer, proactiveLines, lines, refusal}
@@ -27,9 +26,9 @@ same-types false false true d = refl
 same-types false false false d = refl
 
 -- A COMMAND OF ANOTHER TYPE THAN TIMER MANAGEMENT, by an applet that is there, with none outstanding: it gets 17 just for the four types.
-pub send-gets-17 : (m : Model) (n : ℕ) (bytes : List ℕ) (type : ℕ) → commandOf bytes ≡ Plain type → present (m .tables) n ≡ true → m .desk .outstanding ≡ false
+pub send-gets-17 : (m : Model) (n : ℕ) (bytes : List ℕ) (type : ℕ) → commandOf bytes ≡ Plain type → absent (m .tables) n ≡ false → m .desk .outstanding ≡ false
     → step m (proactive (send n bytes)) .answer .refusal ≡ (if systems? type then 17 else 0)
-unfolding refusal lines proactiveLines lowest absent badCommand foreignTimer systemType
+unfolding refusal lines proactiveLines lowest badCommand foreignTimer systemType
 send-gets-17 m n bytes type is here none =
     gives m (proactive (send n bytes))
     ∙ rw (is, here, none) (ap (λ (b : Bool). if b then 17 else 0) (same-types (type == 0x25) (type == 0x05) (type == 0x03) (type == 0x04)))
