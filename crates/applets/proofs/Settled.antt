@@ -14,7 +14,7 @@ use Rattle.sets.specs.Sets.{has?, setBoth, setWithout}
 use Rattle.sets.proofs.Bits.{has-set, set-alike}
 use Rattle.rules.specs.Holds.{Applet, withEvent}
 use Rattle.rules.specs.Events.{handlerAvailable}
-use Rattle.rules.specs.Applets.{nobody, settles, usedUp}
+use Rattle.rules.specs.Applets.{nobody, calledWhenSettled, usedUp}
 use Rattle.runs.proofs.Registered.{used-event}
 use Rattle.applets.specs.ByNumber.{at, bare, rollOf, selectableSet, registeredSet, madeTable}
 use Rattle.applets.proofs.Numbers.{roll-same}
@@ -22,7 +22,7 @@ use Rattle.applets.proofs.Numbers.{roll-same}
 -- what it leaves of one applet
 used-kept : {A : Type 0} (g : Applet → A) → ((x : Applet) → g (withEvent handlerAvailable false x) ≡ g x) → (x : Applet) → g (usedUp x) ≡ g x
 unfolding usedUp
-used-kept g same x = go (settles x)
+used-kept g same x = go (calledWhenSettled x)
   where
     go : (b : Bool) → g (if b then withEvent handlerAvailable false x else x) ≡ g x
     go true = same x

@@ -18,7 +18,7 @@ use Rattle.rules.specs.Holds.{Bounds, Tables, Model}
 use Rattle.rules.specs.Events.{kindOf, callControl}
 use Rattle.rules.specs.Applets.{present, applet, registered, isRegistered}
 use Rattle.rules.specs.Calls.{event, askEvent, saying, refusedWith}
-use Rattle.rules.specs.Refusals.{lines, absent, eventLines, refusal}
+use Rattle.rules.specs.Refusals.{lines, eventLines, refusal}
 use Rattle.rules.specs.Step.{step, outcome, tablesAfter, eventTables, deskAfter, answer, eventAnswer}
 use Rattle.events.specs.Place.{placeOf}
 use Rattle.events.proofs.Places.{place-within}
@@ -33,7 +33,7 @@ use Rattle.rules.specs.Held.{storedAnswer}
 use Rattle.card.specs.Turns.{isListed}
 use Rattle.card.proofs.Left.{left-sound, left-bounds}
 use Rattle.card.proofs.Replied.{replies, stays, control-form}
-use Rattle.card.proofs.Present.{present-by}
+use Rattle.card.proofs.Present.{present-by, gone-by}
 use Rattle.card.proofs.Listeners.{set-is}
 
 pub ask-stays : (c : Card) → Left c → (n : ℕ) (v : ℤ) → c ≡ stored (step (view c) (event (askEvent n v)) .after)
@@ -54,8 +54,8 @@ module _
     t = m .tables
 
     refusal-is : r ≡ refusal m (event (askEvent n v))
-    unfolding refusal lines eventLines absent
-    refusal-is = refused ∙ rw (found ∙ present-by c left n, kind) refl
+    unfolding refusal lines eventLines
+    refusal-is = refused ∙ rw (gone-by c left n found, kind) refl
 
     -- the applet's registration is in the set of the event's place
     registered-is : present t n ≡ true → says ≡ registered t p (applet t n)

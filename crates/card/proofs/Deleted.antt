@@ -23,11 +23,12 @@ use Rattle.rules.specs.Rows.{withoutRows}
 use Rattle.rules.specs.Timers.{withoutTimers}
 use Rattle.rules.specs.Calls.{admin, delete, accepted, refusedWith}
 use Rattle.rules.specs.Desk.{menuChanges, eventsChange, marked}
-use Rattle.rules.specs.Refusals.{lines, lowest, absent, adminLines, refusal}
+use Rattle.rules.specs.Refusals.{lines, lowest, adminLines, refusal}
 use Rattle.rules.specs.Step.{step, tablesAfter, adminTables, deskAfter, answer}
 use Rattle.rules.proofs.DueMarks.{marked-same}
 use Rattle.runs.specs.Sound.{SoundApplet, SoundTables}
 use Rattle.runs.proofs.Altered.{admin-sound}
+use Rattle.runs.proofs.Looked.{not-absent}
 use Rattle.applets.specs.ByNumber.{rollOf, selectableSet, registeredSet, madeTable, madeWith}
 use Rattle.applets.proofs.Made.{made-set}
 use Rattle.applets.specs.Rolls.{rollWithout}
@@ -43,7 +44,7 @@ use Rattle.card.specs.Replies.{replied}
 use Rattle.card.proofs.Left.{left-form, left-sound, left-bounds}
 use Rattle.card.proofs.Marks.{withDue, due-desk}
 use Rattle.card.proofs.Replied.{replies, tablesBy, after-by, answer-by, card-is, roll-form, selectable-form, registered-form, made-form, desk-form}
-use Rattle.card.proofs.Present.{present-by, low-is, high-is, selectable-has}
+use Rattle.card.proofs.Present.{present-by, gone-by, low-is, high-is, selectable-has}
 use Rattle.card.proofs.Listeners.{set-is, codes-by}
 
 module _ (c : Card) (left : Left c) (n : ℕ) (there : has? (c .roll .present) n ≡ true) where
@@ -71,8 +72,8 @@ module _ (c : Card) (left : Left c) (n : ℕ) (there : has? (c .roll .present) n
       every-so (SoundApplet (t .bounds)) _ (λ x s. (s .number-from, omega (arith, s .number-to, eight))) (t .applets) (sound .each-applet)
 
   none-refused : refusal m (admin (delete n)) ≡ 0
-  unfolding refusal lines adminLines lowest absent
-  none-refused = rw here refl
+  unfolding refusal lines adminLines lowest
+  none-refused = rw (not-absent t sound n here) refl
 
   bounds-same : u .bounds ≡ document
   unfolding adminTables
@@ -156,8 +157,8 @@ module _ (c : Card) (left : Left c) (n : ℕ) (there : has? (c .roll .present) n
 -- DELETE, by what the parts of the code say
 module _ (c : Card) (left : Left c) (n : ℕ) {there : Bool} (found : there ≡ has? (c .roll .present) n) {r : ℕ} (refused : r ≡ (if not there then 2 else 0)) where
   refusal-is : r ≡ refusal (view c) (admin (delete n))
-  unfolding refusal lines adminLines lowest absent
-  refusal-is = refused ∙ ap (λ (b : Bool). if not b then 2 else 0) (found ∙ present-by c left n)
+  unfolding refusal lines adminLines lowest
+  refusal-is = refused ∙ rw (gone-by c left n found) refl
 
   still : deskAfter (view c) (admin (delete n)) ≡ view c .desk
   unfolding deskAfter

@@ -22,7 +22,7 @@ use Rattle.rules.specs.declared.Rows.{Rows}
 use Rattle.rules.specs.Holds.{Row, Bounds, Tables, withRows}
 use Rattle.rules.specs.Held.{noRow, viewRows, storedRows, storedAnswer}
 use Rattle.rules.specs.Applets.{nobody, present, applet}
-use Rattle.rules.specs.Rows.{withText, withEnabled}
+use Rattle.rules.specs.Rows.{itsRow, withText, withEnabled}
 use Rattle.rules.specs.Desk.{menuChanges, eventsChange, marked}
 use Rattle.rules.specs.Calls.{EntryCall, entry, changeEntry, accepted, refusedWith}
 use Rattle.rules.specs.Refusals.{line, lowest, refusal}
@@ -33,7 +33,7 @@ use Rattle.runs.proofs.Filled.{ChangesEntry, changes-entry}
 use Rattle.applets.specs.ByNumber.{byNumber, grantOf, rollOf, selectableSet, registeredSet, madeTable}
 use Rattle.screen.proofs.RowTurns.{enabled-shows, text-shows}
 use Rattle.rows.specs.declared.Turned.{Turned}
-use Rattle.rows.specs.ItsRow.{itsRow, markedBy, rewordedBy}
+use Rattle.rows.specs.ItsRow.{markedBy, rewordedBy}
 use Rattle.rows.proofs.Its.{its-known, its-marked, its-reworded, none-marked, none-reworded, kept-reworded, marked-says, reworded-says}
 use Rattle.downloads.proofs.Quiet.{rows-events}
 use Rattle.refusals.specs.Lines.{unfitText}
@@ -45,7 +45,7 @@ use Rattle.card.specs.Replies.{replied}
 use Rattle.card.proofs.Left.{left-form, left-sound, left-bounds}
 use Rattle.card.proofs.Marks.{withDue, due-desk, unmarked}
 use Rattle.card.proofs.Replied.{replies, answer-by, card-is, roll-form, selectable-form, registered-form, made-form, control-form, rows-form, bank-form, desk-form}
-use Rattle.card.proofs.Present.{present-by, grant-is, selectable-has}
+use Rattle.card.proofs.Present.{present-by, found-by, grant-is, selectable-has}
 
 -- what an accepted call about entries leaves, and that a refused one leaves the card
 module _ (c : Card) (left : Left c) (y : EntryCall) {r : ℕ} (e : r ≡ refusal (view c) (entry y)) where
@@ -148,7 +148,7 @@ three-lines true false fits h = absurd (omega arith)
 three-lines false its fits h = absurd (omega arith)
 
 -- ENABLE AND DISABLE
-turn-tables : (t : Tables) (n i : ℕ) (on : Bool) → entryTables t (turning on n i) ≡ withRows t (withEnabled i on (t .rows))
+turn-tables : (t : Tables) (n i : ℕ) (on : Bool) → entryTables t (turning on n i) ≡ withRows t (withEnabled n i on (t .rows))
 unfolding entryTables
 turn-tables t n i true = refl
 turn-tables t n i false = refl
@@ -168,7 +168,7 @@ module _ (c : Card) (left : Left c) (n i : ℕ) (on : Bool) {there : Bool} (foun
     its-is = ap (λ (k : Turned). k .its) is ∙ marked-says (view c .tables .rows) n i on
 
     is-turned : r ≡ refusal (view c) (entry (turning on n i))
-    is-turned = turn-refusal (view c) n (found ∙ present-by c left n) i on (its-is ∙ its-known (view c .tables .rows) n i) e
+    is-turned = turn-refusal (view c) n (found-by c left n found) i on (its-is ∙ its-known (view c .tables .rows) n i) e
 
     pub turns-entry : _≡_ {A = Reply} (record { card = withEntries c (c .made) (w .rows) x; answer = a }) (replied (step (view c) (entry (turning on n i))))
     unfolding view
@@ -182,7 +182,7 @@ module _ (c : Card) (left : Left c) (n i : ℕ) (on : Bool) {there : Bool} (foun
             let so = is ∙ its-marked (t .rows) n i (s .identifiers-apart) q on in
             rows-changed c left n (turning on n i) is-turned (turn-answer t n i on) says sh w due
             (e ∙ rw (found ∙ present-by c left n ∙ here, its-is ∙ q) (unfold lowest in refl))
-            (withEnabled i on (t .rows)) here (turn-tables t n i on)
+            (withEnabled n i on (t .rows)) here (turn-tables t n i on)
             (enabled-shows t s n i q on ∙ ap (λ (b : Bool). applet t n .selectable && b) (sym (ap (λ (k : Turned). k .turns) so)))
             (ap (λ (k : Turned). k .rows) so)
         go false q =
@@ -208,7 +208,7 @@ module _ (c : Card) (left : Left c) (n i : ℕ) (help : Bool) (text : List ℕ) 
     limit-is = ap (λ (k : Grant). k .text) (granted ∙ grant-is c left n)
 
     is-changed : r ≡ refusal (view c) (entry (changeEntry n i help text))
-    is-changed = change-refusal (view c) n (found ∙ present-by c left n) i help text (row-is ∙ its-known (view c .tables .rows) n i) limit-is fit e
+    is-changed = change-refusal (view c) n (found-by c left n found) i help text (row-is ∙ its-known (view c .tables .rows) n i) limit-is fit e
 
     abbrev Changes : Type 0
     Changes = _≡_ {A = Reply} (record { card = withEntries c (c .made) (w .rows) x; answer = a }) (replied (step (view c) (entry (changeEntry n i help text))))
@@ -226,9 +226,9 @@ module _ (c : Card) (left : Left c) (n i : ℕ) (help : Bool) (text : List ℕ) 
         let whole : take 15 text ≡ text = take-all 15 text (omega (arith, does .fits .to, sound-applet t s n (does .here) .text, ap (λ (b : Bounds). b .text) (left-bounds c left))) in
         let so = worded ∙ its-reworded (t .rows) n i (s .identifiers-apart) q help text in
         rows-changed c left n (changeEntry n i help text) is-changed refl says sh w due z
-        (withText i help text (t .rows)) (does .here) refl
+        (withText n i help text (t .rows)) (does .here) refl
         (text-shows t s n i (does .its) help text ∙ ap (λ (b : Bool). applet t n .selectable && b) (sym (ap (λ (k : Turned). k .turns) so)))
-        (ap (λ (k : Turned). k .rows) so ∙ ap (λ (k : List ℕ). storedRows (withText i help k (t .rows))) whole)
+        (ap (λ (k : Turned). k .rows) so ∙ ap (λ (k : List ℕ). storedRows (withText n i help k (t .rows))) whole)
 
     pub changes-words : Changes
     unfolding view

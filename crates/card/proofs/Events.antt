@@ -13,7 +13,7 @@ use Rattle.lists.specs.Tests.{if_then_else_, _==_}
 use Rattle.lists.specs.Lists.{some?, change}
 use Rattle.lists.specs.Tables.{table}
 use Rattle.lists.proofs.Decided.{turned}
-use Rattle.lists.proofs.Truth.{and-false, beq-self}
+use Rattle.lists.proofs.Truth.{and-false, beq-self, not-not}
 use Rattle.lists.proofs.Places.{set-held}
 use Rattle.lists.proofs.Tables.{table-alike, table-set}
 use Rattle.sets.specs.Sets.{has?, meets, turnedSet}
@@ -47,7 +47,7 @@ use Rattle.rules.specs.Held.{storedAnswer}
 use Rattle.card.specs.Turns.{setAfter, ownerAfter}
 use Rattle.card.proofs.Left.{left-sound, left-bounds}
 use Rattle.card.proofs.Marks.{withDue, unmarked}
-use Rattle.card.proofs.Present.{present-by, menu-same, events-none}
+use Rattle.card.proofs.Present.{present-by, found-by, menu-same, events-none}
 use Rattle.card.proofs.Listeners.{set-is, event-by}
 use Rattle.card.proofs.Replied.{replies, tablesBy, after-by, answer-by, next-card, selectable-form, registered-form, control-form}
 
@@ -58,11 +58,11 @@ turning n v on = if on then setEvent n v else clearEvent n v
 abbrev turnRefusal : (there : Bool) → Kind → (control applet : ℕ) → Bool → ℕ
 turnRefusal there k control n on = eventRefusal there k (if on then line 9 (isControl k && (not (control == 0) && not (control == n))) ∷ [] else [])
 
-turn-refusal-is : (m : Model) (n : ℕ) (v : ℤ) (on : Bool) {there : Bool} {k : Kind} → there ≡ present (m .tables) n → k ≡ kindOf v
+turn-refusal-is : (m : Model) (n : ℕ) (v : ℤ) (on : Bool) {there : Bool} {k : Kind} → there ≡ not (absent (m .tables) n) → k ≡ kindOf v
     → turnRefusal there k (m .tables .control) n on ≡ refusal m (event (turning n v on))
-unfolding refusal lines eventLines absent ownedByAnother
-turn-refusal-is m n v true e f = rw (e, f) refl
-turn-refusal-is m n v false e f = rw (e, f) refl
+unfolding refusal lines eventLines ownedByAnother
+turn-refusal-is m n v true e f = rw (e, ← not-not (absent (m .tables) n), f) refl
+turn-refusal-is m n v false e f = rw (e, ← not-not (absent (m .tables) n), f) refl
 
 -- a call that leaves what an install fixes, who is selectable, the entries made, the rows and the timers
 module _ (c : Card) (left : Left c) (u : Tables) where
@@ -182,7 +182,7 @@ module _
     in-table = place-within v kind at-place
 
     refusal-is : r ≡ refusal m (event call)
-    refusal-is = refused ∙ ap (λ (o : ℕ). turnRefusal there k o n on) (control-form c left) ∙ turn-refusal-is m n v on (found ∙ present-by c left n) kind
+    refusal-is = refused ∙ ap (λ (o : ℕ). turnRefusal there k o n on) (control-form c left) ∙ turn-refusal-is m n v on (found-by c left n found) kind
 
     plain : (b : Bool) → answer m (event (turning n v b)) ≡ accepted
     unfolding answer eventAnswer

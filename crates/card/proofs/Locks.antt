@@ -36,7 +36,7 @@ use Rattle.card.specs.Replies.{replied}
 use Rattle.card.proofs.Left.{left-sound, left-bounds}
 use Rattle.card.proofs.Replied.{replies, tablesBy, after-by, answer-by, next-card, selectable-form, registered-form, control-form}
 use Rattle.card.proofs.Marks.{withDue, unmarked}
-use Rattle.card.proofs.Present.{present-by, selectable-has, menu-same, events-none}
+use Rattle.card.proofs.Present.{present-by, gone-by, selectable-has, menu-same, events-none}
 use Rattle.card.proofs.Listeners.{set-is, codes-by}
 
 -- lock and unlock as one call: the applet becomes selectable, or locked
@@ -119,8 +119,7 @@ module _ (c : Card) (left : Left c) (n : ℕ) (on : Bool) {there : Bool} (found 
   lines-are false = refl
 
   refusal-is : r ≡ refusal m (admin (locking on n))
-  unfolding absent
-  refusal-is = refused ∙ ap (λ (b : Bool). if not b then 2 else 0) (found ∙ present-by c left n) ∙ lines-are on
+  refusal-is = refused ∙ ap (λ (b : Bool). if b then 2 else 0) (sym (gone-by c left n found)) ∙ lines-are on
 
   tables-are : (b : Bool) → adminTables (m .tables) (locking b n) ≡ withApplets (m .tables) (change (hasNumber n) (withSelectable b) (m .tables .applets))
   unfolding adminTables

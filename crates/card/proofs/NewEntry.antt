@@ -40,7 +40,7 @@ use Rattle.card.specs.View.{view, stored, Left}
 use Rattle.card.specs.Replies.{replied}
 use Rattle.card.proofs.Left.{left-sound, left-bounds}
 use Rattle.card.proofs.Replied.{replies, made-form}
-use Rattle.card.proofs.Present.{present-by, grant-is, made-is}
+use Rattle.card.proofs.Present.{found-by, grant-is, made-is}
 use Rattle.card.proofs.EntryRows.{withEntries, entry-after, entry-refused, entry-card, selectable-there}
 
 -- the rows with the new one, and its identifier
@@ -74,7 +74,7 @@ module _ (c : Card) (left : Left c) (n : ℕ) (help : Bool) (text : List ℕ) {t
     is-new : r ≡ refusal (view c) (entry (newEntry n help text))
     unfolding grantOf
     is-new =
-        new-refusal (view c) n (found ∙ present-by c left n) help text
+        new-refusal (view c) n (found-by c left n found) help text
         (ap (λ (h : Grant). h .entries) grant-of) made-of (ap (λ (h : Grant). h .text) grant-of) fit e
 
     -- the answer: the identifier of the row

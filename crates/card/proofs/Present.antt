@@ -3,9 +3,10 @@
 use Prim.Native.Nat.{ℕ, _≤_}
 use native.Mathlib.Omega.{arith}
 use mathlib.Core.Path.{_≡_, refl, sym, ap, _∙_}
-use mathlib.Core.Bool.{true, false}
+use mathlib.Core.Bool.{Bool, true, false, not}
 use mathlib.Core.List.{List}
 use Rattle.lists.proofs.Alike.{unlike-not}
+use Rattle.lists.proofs.Truth.{not-not}
 use Rattle.sets.specs.Sets.{has?}
 use Rattle.sets.proofs.Bits.{has-set}
 use Rattle.rules.specs.declared.Roll.{Roll}
@@ -13,8 +14,9 @@ use Rattle.rules.specs.Holds.{Applet, Bounds, Tables}
 use Rattle.rules.specs.Applets.{nobody, present, applet}
 use Rattle.rules.specs.Commands.{shownMenu}
 use Rattle.rules.specs.Desk.{sameRow?, menuChanges, eventsChange}
+use Rattle.rules.specs.Refusals.{absent}
 use Rattle.rules.proofs.DueMarks.{row-self}
-use Rattle.runs.proofs.Looked.{number-from, number-to}
+use Rattle.runs.proofs.Looked.{number-from, number-to, absent-is}
 use Rattle.applets.specs.ByNumber.{at, byNumber, grantOf, rollOf, selectableSet, madeTable}
 use Rattle.applets.proofs.Numbers.{by-any, present-in}
 use Rattle.downloads.proofs.Shown.{events-same}
@@ -27,6 +29,13 @@ use Rattle.card.proofs.Replied.{roll-form, selectable-form, made-form}
 pub present-by : (c : Card) (left : Left c) (n : ℕ) → has? (c .roll .present) n ≡ present (view c .tables) n
 present-by c left n =
     ap (λ (r : Roll). has? (r .present) n) (roll-form c left) ∙ present-in (view c .tables) (left-sound c left .tables) (left-bounds c left) n
+
+-- .. and whether it is refused as absent
+pub gone-by : (c : Card) (left : Left c) (n : ℕ) {there : Bool} → there ≡ has? (c .roll .present) n → absent (view c .tables) n ≡ not there
+gone-by c left n found = absent-is (view c .tables) (left-sound c left .tables) n ∙ ap not (sym (found ∙ present-by c left n))
+
+pub found-by : (c : Card) (left : Left c) (n : ℕ) {there : Bool} → there ≡ has? (c .roll .present) n → there ≡ not (absent (view c .tables) n)
+found-by c left n {there} found = not-not there ∙ ap not (sym (gone-by c left n found))
 
 -- what an applet was installed with, and how many entries it has made, by its number
 module _ (c : Card) (left : Left c) (n : ℕ) where

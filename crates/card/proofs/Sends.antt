@@ -27,7 +27,7 @@ use Rattle.card.specs.View.{view, stored, Left}
 use Rattle.card.specs.Replies.{replied}
 use Rattle.card.proofs.Left.{left-form}
 use Rattle.card.proofs.Replied.{replies, answer-by, card-is, roll-form, selectable-form, registered-form, made-form, control-form, rows-form, bank-form, desk-form}
-use Rattle.card.proofs.Present.{present-by}
+use Rattle.card.proofs.Present.{found-by}
 
 -- the card with another desk
 abbrev pub withDesk : Card → held.Desk → Card
@@ -88,4 +88,4 @@ module _ (c : Card) (l : Left c) where
       → a ≡ storedAnswer (refusedWith r)
       → _≡_ {A = Reply} (record { card = withDesk c (waiting (c .desk) b); answer = a }) (replied (step m (proactive (send n bytes))))
   unfolding proactiveDesk view viewDesk
-  sends n bytes says found by = waits (send n bytes) true refl (send-is m n (found ∙ present-by c l n) bytes says (by (m .tables) refl))
+  sends n bytes says found by = waits (send n bytes) true refl (send-is m n (found-by c l n found) bytes says (by (m .tables) refl))

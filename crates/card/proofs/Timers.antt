@@ -3,7 +3,7 @@
 use Prim.Native.Nat.{ℕ, zero, suc}
 use native.Mathlib.Omega.{arith}
 use mathlib.Core.Path.{_≡_, refl, sym, ap, _∙_}
-use mathlib.Core.Bool.{Bool, true, false}
+use mathlib.Core.Bool.{Bool, true, false, not}
 use mathlib.Core.List.{List}
 use borrow.Author.Tests.{le-leb, ne-eqb}
 use Rattle.lists.specs.Tests.{if_then_else_}
@@ -12,7 +12,7 @@ use Rattle.rules.specs.declared.Bank.{Bank}
 use Rattle.rules.specs.declared.Answer.{Answer}
 use Rattle.rules.specs.declared.Grant.{Grant}
 use Rattle.rules.specs.Holds.{Model, withTimers}
-use Rattle.rules.specs.Applets.{present, applet, nobody}
+use Rattle.rules.specs.Applets.{applet, nobody}
 use Rattle.rules.specs.Timers.{isOwner, withAllocated, withReleased}
 use Rattle.rules.specs.Commands.{selectable}
 use Rattle.rules.specs.Calls.{timer, allocate, release}
@@ -32,7 +32,7 @@ use Rattle.rules.specs.Held.{storedAnswer}
 use Rattle.card.proofs.Left.{left-form}
 use Rattle.card.proofs.Marks.{due-desk, unmarked}
 use Rattle.card.proofs.Replied.{replies, card-is, roll-form, selectable-form, registered-form, made-form, control-form, rows-form, desk-form}
-use Rattle.card.proofs.Present.{present-by, grant-is, low-is, high-is}
+use Rattle.card.proofs.Present.{gone-by, grant-is, low-is, high-is}
 
 -- the card with another bank
 abbrev withBank : Card → Bank → Card
@@ -58,8 +58,8 @@ module _ (c : Card) (l : Left c) where
       (unmarked (c .desk .session) (c .desk .due .menu)) (unmarked (c .desk .session) (c .desk .due .events)))
 
   module _ (n : ℕ) {there : Bool} (found : there ≡ has? (c .roll .present) n) where
-    is-there : there ≡ present (m .tables) n
-    is-there = found ∙ present-by c l n
+    gone : absent (m .tables) n ≡ not there
+    gone = gone-by c l n found
 
     -- an applet that is there has a number that owns timers
     owns : there ≡ true → isOwner n ≡ true
@@ -75,9 +75,9 @@ module _ (c : Card) (l : Left c) where
       limit-is = ap (λ (x : Grant). x .timers) (grant ∙ grant-is c l n)
 
       by-bank : (b : Bool) → there ≡ b → bankAllocate os (if b then n else 0) (g .timers) ≡ allocateBy (refusal m (timer (allocate n))) os n
-      unfolding bankAllocate refusal lines timerLines lowest absent view
-      by-bank true h = rw (owns h, sym is-there, h, limit-is) refl
-      by-bank false h = unfold isOwner allocateBy in rw (sym is-there, h) refl
+      unfolding bankAllocate refusal lines timerLines lowest view
+      by-bank true h = rw (owns h, gone, h, limit-is) refl
+      by-bank false h = unfold isOwner allocateBy in rw (gone, h) refl
 
       by-refusal : (k : ℕ) → withBank c (record { owner = allocateBy k os n .owners }) ≡ stored (outcome k m (timer (allocate n)) .after)
       unfolding allocateBy outcome changed tablesAfter deskAfter timerTables view
@@ -102,9 +102,9 @@ module _ (c : Card) (l : Left c) where
     -- RELEASE
     module _ (i : ℕ) where
       freed-by-bank : (b : Bool) → there ≡ b → bankRelease os (if b then n else 0) 0 i ≡ releaseBy (refusal m (timer (release n i))) os i
-      unfolding bankRelease refusal lines timerLines lowest absent view
-      freed-by-bank true h = rw (owns h, sym is-there, h) refl
-      freed-by-bank false h = unfold isOwner releaseBy in rw (sym is-there, h) refl
+      unfolding bankRelease refusal lines timerLines lowest view
+      freed-by-bank true h = rw (owns h, gone, h) refl
+      freed-by-bank false h = unfold isOwner releaseBy in rw (gone, h) refl
 
       freed-by-refusal : (k : ℕ) → withBank c (record { owner = releaseBy k os i .owners }) ≡ stored (outcome k m (timer (release n i)) .after)
       unfolding releaseBy outcome changed tablesAfter deskAfter timerTables view

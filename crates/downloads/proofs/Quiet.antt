@@ -13,7 +13,7 @@ use Rattle.lists.proofs.Changes.{some-change}
 use Rattle.rules.specs.declared.Request.{Request}
 use Rattle.rules.specs.Holds.{Applet, Row, Tables, withApplets, withRows, withControl, withTimers, withEvent, withOneMore}
 use Rattle.rules.specs.Events.{handlerAvailable}
-use Rattle.rules.specs.Applets.{hasNumber, newcomer, registered, settles, usedUp}
+use Rattle.rules.specs.Applets.{hasNumber, newcomer, registered, calledWhenSettled, usedUp}
 use Rattle.rules.specs.Commands.{listened}
 use Rattle.rules.specs.Desk.{eventsChange}
 use Rattle.downloads.specs.Turns.{listens}
@@ -53,7 +53,7 @@ module _ (t : Tables) where
 
   used-hears : (e : ℕ) (x : Applet) → (e ≡ handlerAvailable → ⊥) → listens e (usedUp x) ≡ listens e x
   unfolding usedUp
-  used-hears e x h = go (settles x)
+  used-hears e x h = go (calledWhenSettled x)
     where
       go : (b : Bool) → listens e (if b then withEvent handlerAvailable false x else x) ≡ listens e x
       go true = rw (getD-set-other (x .events) handlerAvailable e false false h) refl

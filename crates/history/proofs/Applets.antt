@@ -16,7 +16,7 @@ use Rattle.rules.specs.declared.Kind.the-variants.{Event, Issuer, Reserved, Uns
 use Rattle.rules.specs.declared.Request.{Request}
 use Rattle.rules.specs.Holds.{Applet, Tables, Model, withApplets, withControl, withEvent, withOneMore}
 use Rattle.rules.specs.Events.{callControl, handlerAvailable, kindOf}
-use Rattle.rules.specs.Applets.{hasNumber, nobody, present, applet, newcomer, forget, register, withRegistration, settles, usedUp}
+use Rattle.rules.specs.Applets.{hasNumber, nobody, present, applet, newcomer, forget, register, withRegistration, calledWhenSettled, usedUp}
 use Rattle.rules.specs.Calls.{event, entry, EventCall, setEvent, clearEvent, askEvent, EntryCall, newEntry, changeEntry, enableEntry, disableEntry}
 use Rattle.rules.specs.Step.{eventTables, entryTables}
 use Rattle.rules.specs.Refusals.{eventLines, lines, refusal}
@@ -48,7 +48,7 @@ module _ (l : List Applet) (f : Applet → Applet) (same : (x : Applet) → f x 
 pub used-kept : {B : Type 0} (g : Applet → B) → ((b : Bool) (x : Applet) → g (withEvent handlerAvailable b x) ≡ g x) → (x : Applet)
     → g (usedUp x) ≡ g x
 unfolding usedUp
-used-kept g k x = if-holds (λ y. g y ≡ g x) (settles x) (λ h. search k) (λ h. search k)
+used-kept g k x = if-holds (λ y. g y ≡ g x) (calledWhenSettled x) (λ h. search k) (λ h. search k)
 
 pub with-used : (l : List Applet) (n : ℕ) → first (hasNumber n) nobody (map usedUp l) ≡ usedUp (first (hasNumber n) nobody l)
 unfolding usedUp
@@ -119,7 +119,7 @@ module _ (P : Applet → Type 0) where
       → Every P (map usedUp l)
   unfolding usedUp
   used-each w l i =
-      every-map P usedUp l (every-so P _ (λ x p. if-holds P (settles x) (λ h. search (w, p)) (λ h. search (w, p))) l i)
+      every-map P usedUp l (every-so P _ (λ x p. if-holds P (calledWhenSettled x) (λ h. search (w, p)) (λ h. search (w, p))) l i)
 
 -- The numbers, where none is installed or deleted.
 registered-numbers : (t : Tables) (m : ℕ) (k : Kind) (b : Bool)

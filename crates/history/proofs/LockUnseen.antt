@@ -2,7 +2,7 @@
 -- answers the same, and does the same to the tables. Of every card. Assumes nothing.
 use Prim.Native.Nat.{ℕ, zero, suc}
 use mathlib.Core.Path.{_≡_, refl, ap, ap₂, _∙_}
-use mathlib.Core.Bool.{Bool, true, false, not}
+use mathlib.Core.Bool.{Bool, true, false, not, _||_}
 use mathlib.Core.List.{List, [], _∷_}
 use lib.ListN.{getD}
 use Rattle.lists.specs.Tests.{if_then_else_, _==_}
@@ -13,7 +13,7 @@ use Rattle.rules.specs.declared.Kind.{Kind}
 use Rattle.rules.specs.declared.Kind.the-variants.{Event, Issuer, Reserved, Unsupported}
 use Rattle.rules.specs.Holds.{Applet, Tables, Model, withApplets, withRows, withControl, withSelectable, withEvent, withOneMore}
 use Rattle.rules.specs.Events.{callControl, kindOf}
-use Rattle.rules.specs.Applets.{hasNumber, present, nobody, applet, registered, isRegistered, ownedByAnother, forget, withRegistration, register}
+use Rattle.rules.specs.Applets.{isNumber, hasNumber, present, nobody, applet, registered, isRegistered, ownedByAnother, forget, withRegistration, register}
 use Rattle.rules.specs.Rows.{nextPair, nextIdentifier, allMade, notItsRow, badText, withEntry}
 use Rattle.rules.specs.Timers.{atLimit, noneFree}
 use Rattle.rules.specs.Calls.{saying, numbered, Call, admin, event, entry, timer, arrival, settled, proactive, systemCommand, EventCall, setEvent, clearEvent, askEvent, EntryCall, newEntry, changeEntry, enableEntry, disableEntry, TimerCall, allocate, release}
@@ -78,14 +78,14 @@ module _ (k : ℕ) (b : Bool) where
 
     entry-lines : (c : EntryCall) → entryLines (withLock t) c ≡ entryLines t c
     unfolding entryLines absent allMade badText
-    entry-lines (newEntry n help text) = ap₂ (λ (h : Bool) (x : Applet). line 2 (not h) ∷ line 10 (allMade x) ∷ line 12 (badText x text) ∷ []) (there n) (same-but n)
-    entry-lines (changeEntry n i help text) = ap₂ (λ (h : Bool) (x : Applet). line 2 (not h) ∷ line 11 (notItsRow n i (t .rows)) ∷ line 12 (badText x text) ∷ []) (there n) (same-but n)
+    entry-lines (newEntry n help text) = ap₂ (λ (h : Bool) (x : Applet). line 2 (not (isNumber (t .bounds) n) || not h) ∷ line 10 (allMade x) ∷ line 12 (badText x text) ∷ []) (there n) (same-but n)
+    entry-lines (changeEntry n i help text) = ap₂ (λ (h : Bool) (x : Applet). line 2 (not (isNumber (t .bounds) n) || not h) ∷ line 11 (notItsRow n i (t .rows)) ∷ line 12 (badText x text) ∷ []) (there n) (same-but n)
     entry-lines (enableEntry n i) = rw (there n) refl
     entry-lines (disableEntry n i) = rw (there n) refl
 
     timer-lines : (c : TimerCall) → timerLines (withLock t) c ≡ timerLines t c
     unfolding timerLines absent
-    timer-lines (allocate n) = ap₂ (λ (h : Bool) (x : Applet). line 2 (not h) ∷ line 13 (atLimit (t .timers) n (x .limits .timers)) ∷ line 14 (noneFree (t .timers)) ∷ []) (there n) (same-but n)
+    timer-lines (allocate n) = ap₂ (λ (h : Bool) (x : Applet). line 2 (not (isNumber (t .bounds) n) || not h) ∷ line 13 (atLimit (t .timers) n (x .limits .timers)) ∷ line 14 (noneFree (t .timers)) ∷ []) (there n) (same-but n)
     timer-lines (release n i) = rw (there n) refl
 
     -- the tables afterwards

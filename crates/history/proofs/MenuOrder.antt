@@ -21,7 +21,7 @@ use Rattle.lists.proofs.Keep.{keep-append}
 use Rattle.lists.proofs.Keyed.{keys-change}
 use Rattle.lists.proofs.Mapped.{map-insertAt, map-keep}
 use Rattle.rules.specs.Holds.{Row, Tables, Model}
-use Rattle.rules.specs.Rows.{hasIdentifier, inUse, place, nextPair, nextIdentifier, withEntry, withText, withEnabled, withoutRows}
+use Rattle.rules.specs.Rows.{hasIdentifier, itsRow, inUse, place, nextPair, nextIdentifier, withEntry, withText, withEnabled, withoutRows}
 use Rattle.rules.specs.Applets.{applet}
 use Rattle.rules.specs.Held.{noRow}
 use Rattle.rules.specs.Calls.{Call, admin, event, entry, timer, arrival, settled, proactive, systemCommand, install, delete, lock, unlock, newEntry, changeEntry, enableEntry, disableEntry, allocate, release}
@@ -114,9 +114,9 @@ module _ (p : ℕ → Bool) where
       unseen : (b : Bool) → p next ≡ b → b ≡ false
       unseen true e = let a = new-entry x n help text ok in clashing (u next e) (next-unused (x .tables) s n (a .here) (a .more))
       unseen false e = refl
-  tables-order x s (entry (changeEntry n i help text)) ok u v = ap (keep p) (keys-change identifierOf noRow _ (λ r. refl) (hasIdentifier i) (x .tables .rows))
-  tables-order x s (entry (enableEntry n i)) ok u v = ap (keep p) (keys-change identifierOf noRow _ (λ r. refl) (hasIdentifier i) (x .tables .rows))
-  tables-order x s (entry (disableEntry n i)) ok u v = ap (keep p) (keys-change identifierOf noRow _ (λ r. refl) (hasIdentifier i) (x .tables .rows))
+  tables-order x s (entry (changeEntry n i help text)) ok u v = ap (keep p) (keys-change identifierOf noRow _ (λ r. refl) (itsRow n i) (x .tables .rows))
+  tables-order x s (entry (enableEntry n i)) ok u v = ap (keep p) (keys-change identifierOf noRow _ (λ r. refl) (itsRow n i) (x .tables .rows))
+  tables-order x s (entry (disableEntry n i)) ok u v = ap (keep p) (keys-change identifierOf noRow _ (λ r. refl) (itsRow n i) (x .tables .rows))
   tables-order x s (timer (allocate n)) ok u v = refl
   tables-order x s (timer (release n k)) ok u v = refl
   tables-order x s (arrival c) ok u v = refl

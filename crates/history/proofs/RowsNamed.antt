@@ -7,19 +7,21 @@ use mathlib.Core.Bool.{Bool, true, false, not, Bool·beq, _&&_, _||_}
 use mathlib.Core.List.{List, [], _∷_, _++_, map}
 use borrow.Author.Tests.{eqb-true}
 use Rattle.lists.specs.Tests.{if_then_else_, _==_}
-use Rattle.lists.specs.Lists.{some?, keep, count, first, change, same?}
+use Rattle.lists.specs.Lists.{Every, some?, keep, count, first, change, same?}
 use Rattle.lists.proofs.Decided.{turned, both}
 use Rattle.lists.proofs.Counts.{count-keep, count-map, count-alike, count-insertAt}
 use Rattle.lists.proofs.Times.{if-map, change-each}
 use Rattle.rules.specs.Holds.{Row}
 use Rattle.rules.specs.Applets.{applet}
-use Rattle.rules.specs.Rows.{hasIdentifier, nextIdentifier, withEntry, withText, withEnabled, withoutRows}
+use Rattle.rules.specs.Rows.{hasIdentifier, itsRow, nextIdentifier, withEntry, withText, withEnabled, withoutRows}
 use Rattle.rules.specs.Desk.{sameRow?}
 use Rattle.rules.specs.Calls.{admin, event, entry, timer, arrival, settled, proactive, systemCommand, install, delete, lock, unlock, newEntry, changeEntry, enableEntry, disableEntry, allocate, release}
+use Rattle.rules.specs.Refusals.{lines, entryLines}
 use Rattle.rules.specs.Step.{adminTables, entryTables, timerTables, tablesAfter, entryAnswer, answer}
 use Rattle.rules.proofs.Reader.{same-true}
-use Rattle.runs.proofs.Filled.{new-entry}
-use Rattle.runs.proofs.Looked.{has-its-number}
+use Rattle.runs.proofs.Accepted.{accepted as none-holds}
+use Rattle.runs.proofs.Filled.{is-its, new-entry, changes-entry}
+use Rattle.runs.proofs.Looked.{has-its-number, its-change}
 use Rattle.history.specs.Histories.{Entry, History, stands}
 use Rattle.history.specs.Deeds.{deletes, makes, changes, enables, disables, appletIn, textIn, helpIn}
 use Rattle.history.specs.Named.{rowMade, rowsSince, rowsNamed}
@@ -84,10 +86,10 @@ rows-back x h p =
 
 -- a row by its identifier, changed by f
 module _ (f : Row → Row) (p : Row → Bool) (i : ℕ) where
-  changed-rows : (l : List Row) → count (hasIdentifier i) l ≤ 1 → (q : Row → Bool)
-      → ((r : Row) → p (if r .identifier == i then f r else r) ≡ q r) → count p (change (hasIdentifier i) f l) ≡ count q l
-  changed-rows l h q e =
-      ap (count p) (change-each (hasIdentifier i) f l h)
+  changed-rows : (n : ℕ) (l : List Row) → count (hasIdentifier i) l ≤ 1 → some? (itsRow n i) l ≡ true → (q : Row → Bool)
+      → ((r : Row) → p (if r .identifier == i then f r else r) ≡ q r) → count p (change (itsRow n i) f l) ≡ count q l
+  changed-rows n l h its q e =
+      ap (count p) (its-change l n i h its f ∙ change-each (hasIdentifier i) f l h)
       ∙ count-map p (λ r. if r .identifier == i then f r else r) l
       ∙ count-alike (λ r. p (if r .identifier == i then f r else r)) q e l
 
@@ -115,7 +117,7 @@ one-more true k n e = omega arith
 one-more false k n e = omega arith
 
 pub rows-kept : Kept (λ t h. (p : Row → Bool) → count p (t .rows) ≡ count p (rowsNamed h))
-unfolding tablesAfter adminTables entryTables timerTables withText withEnabled withoutRows withEntry entryAnswer answer rowsNamed rowsSince rowMade stays touched count some? first reading
+unfolding tablesAfter adminTables entryTables timerTables withText withEnabled withoutRows withEntry entryAnswer answer rowsNamed rowsSince rowMade stays touched lines entryLines Every count some? first reading
 rows-kept m h (admin (install b r)) ok s g p = g .rows p ∙ sym (rows-back _ h p)
 rows-kept m h (admin (delete b)) ok s g p =
     count-keep p (λ r. not (r .owner == b)) (m .tables .rows)
@@ -133,15 +135,15 @@ rows-kept m h (entry (newEntry b help text)) ok s g p =
     row : ℕ → Row
     row o = record { identifier = nextIdentifier (applet (m .tables) b) (m .tables .rows); owner = o; text = text; help = help; enabled = true }
 rows-kept m h (entry (changeEntry b i help text)) ok s g p =
-    changed-rows (λ (r : Row). record { identifier = r .identifier; owner = r .owner; text = text; help = help; enabled = r .enabled }) p i (m .tables .rows) (s .sound .tables .identifiers-apart i) _ (λ r. ap p (text-given r i text help))
+    changed-rows (λ (r : Row). record { identifier = r .identifier; owner = r .owner; text = text; help = help; enabled = r .enabled }) p i b (m .tables .rows) (s .sound .tables .identifiers-apart i) (changes-entry m b i help text ok .its) _ (λ r. ap p (text-given r i text help))
     ∙ g .rows _
     ∙ sym (rows-back _ h p)
 rows-kept m h (entry (enableEntry b i)) ok s g p =
-    changed-rows (λ (r : Row). record { identifier = r .identifier; owner = r .owner; text = r .text; help = r .help; enabled = true }) p i (m .tables .rows) (s .sound .tables .identifiers-apart i) _ (λ r. ap p (mark-given r i true))
+    changed-rows (λ (r : Row). record { identifier = r .identifier; owner = r .owner; text = r .text; help = r .help; enabled = true }) p i b (m .tables .rows) (s .sound .tables .identifiers-apart i) (is-its (m .tables .rows) b i (none-holds m (entry (enableEntry b i)) ok .1 .0)) _ (λ r. ap p (mark-given r i true))
     ∙ g .rows _
     ∙ sym (rows-back _ h p)
 rows-kept m h (entry (disableEntry b i)) ok s g p =
-    changed-rows (λ (r : Row). record { identifier = r .identifier; owner = r .owner; text = r .text; help = r .help; enabled = false }) p i (m .tables .rows) (s .sound .tables .identifiers-apart i) _ (λ r. ap p (mark-given r i false))
+    changed-rows (λ (r : Row). record { identifier = r .identifier; owner = r .owner; text = r .text; help = r .help; enabled = false }) p i b (m .tables .rows) (s .sound .tables .identifiers-apart i) (is-its (m .tables .rows) b i (none-holds m (entry (disableEntry b i)) ok .1 .0)) _ (λ r. ap p (mark-given r i false))
     ∙ g .rows _
     ∙ sym (rows-back _ h p)
 rows-kept m h (timer (allocate b)) ok s g p = g .rows p ∙ sym (rows-back _ h p)

@@ -9,7 +9,6 @@ use Rattle.lists.specs.Lists.{in?}
 use Rattle.rules.specs.declared.Command.the-variants.{Plain}
 use Rattle.rules.specs.Holds.{Desk, Model}
 use Rattle.rules.specs.Envelopes.{commandOf, badCommand, systemType}
-use Rattle.rules.specs.Applets.{present}
 use Rattle.rules.specs.Desk.{withOutstanding}
 use Rattle.rules.specs.Calls.{Outcome, accepted, proactive, send, response}
 use Rattle.rules.specs.Refusals.{lowest, absent, foreignTimer, proactiveLines, lines, refusal}
@@ -18,9 +17,9 @@ use Rattle.rules.proofs.DueMarks.{marked-same}
 use Rattle.history.proofs.Answered.{passes, gives}
 
 -- A COMMAND OF ANOTHER TYPE THAN TIMER MANAGEMENT, by an applet that is there, with none outstanding: it gets 17 just for the four types.
-pub send-gets-17 : (m : Model) (n : ℕ) (bytes : List ℕ) (type : ℕ) → commandOf bytes ≡ Plain type → present (m .tables) n ≡ true → m .desk .outstanding ≡ false
+pub send-gets-17 : (m : Model) (n : ℕ) (bytes : List ℕ) (type : ℕ) → commandOf bytes ≡ Plain type → absent (m .tables) n ≡ false → m .desk .outstanding ≡ false
     → step m (proactive (send n bytes)) .answer .refusal ≡ (if in? type (0x25 ∷ 0x05 ∷ 0x03 ∷ 0x04 ∷ []) then 17 else 0)
-unfolding refusal lines proactiveLines lowest absent badCommand foreignTimer systemType
+unfolding refusal lines proactiveLines lowest badCommand foreignTimer systemType
 send-gets-17 m n bytes type is here none =
     gives m (proactive (send n bytes)) ∙ rw (is, here, none) refl
 

@@ -15,7 +15,7 @@ use Rattle.rules.specs.declared.Kind.the-variants.{Event, Issuer, Reserved, Uns
 use Rattle.rules.specs.Holds.{Tables, Model}
 use Rattle.rules.specs.Events.{notSupported, notToSet}
 use Rattle.rules.specs.Envelopes.{commandOf}
-use Rattle.rules.specs.Applets.{present, applet}
+use Rattle.rules.specs.Applets.{applet}
 use Rattle.rules.specs.Rows.{allMade, badText, notItsRow}
 use Rattle.rules.specs.Calls.{EntryCall, entry, newEntry, changeEntry, enableEntry, disableEntry, proactive, send}
 use Rattle.rules.specs.Refusals.{Line, line, lowest, lines, absent, entryLines, proactiveLines, refusal}
@@ -58,7 +58,7 @@ unfolding lowest
 hand-room true n e z = absurd (omega arith)
 hand-room false n e z = ltb-false n 256 (unlined 18 (n <? 256) (λ h. absurd (omega arith)) (sym e ∙ z))
 
-module _ (m : Model) (n : ℕ) {there : Bool} (found : there ≡ present (m .tables) n) where
+module _ (m : Model) (n : ℕ) {there : Bool} (found : there ≡ not (absent (m .tables) n)) where
   abbrev t : Tables
   t = m .tables
 
@@ -71,8 +71,8 @@ module _ (m : Model) (n : ℕ) {there : Bool} (found : there ≡ present (m .tab
       → fits ≡ not (unfitText limit text)
       → r ≡ lowest (line 2 (not there) ∷ line 10 (entries ≤? made) ∷ line 12 (not fits) ∷ [])
       → r ≡ refusal m (entry (newEntry n help text))
-  unfolding refusal lines entryLines absent allMade badText
-  new-refusal help text p q s f e = e ∙ rw (found, p, q, f, ← not-not (unfitText _ text), s) refl
+  unfolding refusal lines entryLines allMade badText
+  new-refusal help text p q s f e = e ∙ rw (found, ← not-not (absent t n), p, q, f, ← not-not (unfitText _ text), s) refl
 
   pub change-refusal
       : (i : ℕ) (help : Bool) (text : List ℕ) {limit r : ℕ} {its fits : Bool}
@@ -81,14 +81,13 @@ module _ (m : Model) (n : ℕ) {there : Bool} (found : there ≡ present (m .tab
       → fits ≡ not (unfitText limit text)
       → r ≡ lowest (line 2 (not there) ∷ line 11 (not its) ∷ line 12 (not fits) ∷ [])
       → r ≡ refusal m (entry (changeEntry n i help text))
-  unfolding refusal lines entryLines absent badText
-  change-refusal i help text o s f e = e ∙ rw (found, o, ← not-not (notItsRow n i (t .rows)), f, ← not-not (unfitText _ text), s) refl
+  unfolding refusal lines entryLines badText
+  change-refusal i help text o s f e = e ∙ rw (found, ← not-not (absent t n), o, ← not-not (notItsRow n i (t .rows)), f, ← not-not (unfitText _ text), s) refl
 
   pub turn-refusal : (i : ℕ) (on : Bool) {its : Bool} {r : ℕ} → its ≡ not (notItsRow n i (t .rows)) → r ≡ lowest (line 2 (not there) ∷ line 11 (not its) ∷ []) → r ≡ refusal m (entry (turning on n i))
-  unfolding absent
-  turn-refusal i on o e = e ∙ rw (found, o, ← not-not (notItsRow n i (t .rows))) refl ∙ sym (turn-lines m n i on)
+  turn-refusal i on o e = e ∙ rw (found, ← not-not (absent t n), o, ← not-not (notItsRow n i (t .rows))) refl ∙ sym (turn-lines m n i on)
 
   -- send
   pub send-is : (bytes : List ℕ) {k : Command} {r : ℕ} → k ≡ commandOf bytes → r ≡ sendRefusal t n there (m .desk .outstanding) k → r ≡ refusal m (proactive (send n bytes))
-  unfolding sendRefusal refusal lines proactiveLines absent
-  send-is bytes says e = e ∙ rw (found, says) refl
+  unfolding sendRefusal refusal lines proactiveLines
+  send-is bytes says e = e ∙ rw (found, ← not-not (absent t n), says) refl

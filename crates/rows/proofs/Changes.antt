@@ -23,7 +23,8 @@ use Rattle.menu.proofs.Searches.{within, held-index, held-first, held-at}
 use Rattle.screen.specs.Asked.{turnsText, turnsEnabled}
 use Rattle.screen.proofs.Answers.{enabled-turns}
 use Rattle.rows.specs.declared.Turned.{Turned}
-use Rattle.rows.specs.ItsRow.{itsRow, withWords, withMark, turnedBy, keptBy, rewordedBy, markedBy}
+use Rattle.rules.specs.Rows.{itsRow}
+use Rattle.rows.specs.ItsRow.{withWords, withMark, turnedBy, keptBy, rewordedBy, markedBy}
 
 abbrev pub isRow : (applet identifier : ℕ) → held.Row → Bool
 isRow n i x = x .identifier == i && x .owner == n

@@ -1,22 +1,21 @@
 -- Where identifiers are apart, the row of an applet with an identifier is the row with that identifier: so the calls about it
 -- leave what the rules say. Assumes nothing.
 use Prim.Native.Nat.{ℕ}
-use mathlib.Core.Path.{_≡_, refl, sym, ap, _∙_}
+use mathlib.Core.Path.{_≡_, refl, sym, _∙_}
 use mathlib.Core.Bool.{Bool, true, false, not}
 use mathlib.Core.List.{List}
-use lib.ListN.{length, take, getD, set}
+use lib.ListN.{length, take}
 use borrow.Author.Tests.{ltb-false}
-use Rattle.lists.specs.Tests.{_==_}
-use Rattle.lists.specs.Lists.{some?, first, indexOf, change}
+use Rattle.lists.specs.Lists.{some?, first, change}
 use Rattle.lists.proofs.Truth.{not-not}
-use Rattle.lists.proofs.Owned.{index-both}
-use Rattle.lists.proofs.Search.{first-is, change-is, some-is, change-none}
+use Rattle.lists.proofs.Search.{some-is, change-none}
 use Rattle.rules.specs.Holds.{Row}
-use Rattle.rules.specs.Rows.{hasIdentifier, notItsRow, withText, withEnabled}
+use Rattle.rules.specs.Rows.{itsRow, notItsRow, withText, withEnabled}
 use Rattle.rules.specs.Held.{noRow, storedRows}
+use Rattle.runs.proofs.Looked.{its-first}
 use Rattle.menu.specs.Table.{rowWith, IdentifiersApart}
 use Rattle.screen.specs.Asked.{turnsText, turnsEnabled}
-use Rattle.rows.specs.ItsRow.{itsRow, withWords, withMark, turnedBy, keptBy, rewordedBy, markedBy}
+use Rattle.rows.specs.ItsRow.{withWords, withMark, turnedBy, keptBy, rewordedBy, markedBy}
 
 module _ (rows : List Row) (n i : ℕ) where
   pub its-known : some? (itsRow n i) rows ≡ not (notItsRow n i rows)
@@ -25,24 +24,17 @@ module _ (rows : List Row) (n i : ℕ) where
 
   -- there is such a row
   module _ (apart : IdentifiersApart rows) (its : some? (itsRow n i) rows ≡ true) where
-    same-index : indexOf (itsRow n i) rows ≡ indexOf (hasIdentifier i) rows
-    same-index = sym (index-both (hasIdentifier i) (λ (r : Row). r .owner == n) rows (apart i) its)
-
-    same-change : (f : Row → Row) → change (itsRow n i) f rows ≡ change (hasIdentifier i) f rows
-    same-change f =
-        change-is (itsRow n i) f rows noRow ∙ ap (λ (k : ℕ). set rows k (f (getD rows k noRow))) same-index ∙ sym (change-is (hasIdentifier i) f rows noRow)
-
     same-first : first (itsRow n i) noRow rows ≡ rowWith i rows
     unfolding rowWith
-    same-first = first-is (itsRow n i) rows noRow ∙ ap (λ (k : ℕ). getD rows k noRow) same-index ∙ sym (first-is (hasIdentifier i) rows noRow)
+    same-first = its-first rows n i (apart i) its
 
-    pub its-marked : (b : Bool) → markedBy n i b rows ≡ record { rows = storedRows (withEnabled i b rows); its = true; turns = turnsEnabled b (rowWith i rows) }
+    pub its-marked : (b : Bool) → markedBy n i b rows ≡ record { rows = storedRows (withEnabled n i b rows); its = true; turns = turnsEnabled b (rowWith i rows) }
     unfolding markedBy turnedBy withEnabled
-    its-marked b = rw (same-change (withMark b), its, same-first) refl
+    its-marked b = rw (its, same-first) refl
 
-    pub its-reworded : (help : Bool) (text : List ℕ) → rewordedBy n i true help text rows ≡ record { rows = storedRows (withText i help (take 15 text) rows); its = true; turns = turnsText help text (rowWith i rows) }
+    pub its-reworded : (help : Bool) (text : List ℕ) → rewordedBy n i true help text rows ≡ record { rows = storedRows (withText n i help (take 15 text) rows); its = true; turns = turnsText help text (rowWith i rows) }
     unfolding rewordedBy turnedBy withText
-    its-reworded help text = rw (same-change (withWords help (take 15 text)), its, same-first) refl
+    its-reworded help text = rw (its, same-first) refl
 
   -- there is none, or the text does not fit
   module _ (none : some? (itsRow n i) rows ≡ false) where

@@ -80,13 +80,13 @@ pub apart-without : (applet : ℕ) (rows : List Row) → IdentifiersApart rows �
 unfolding withoutRows
 apart-without n rows a = apart-keep _ rows a
 
-pub apart-text : (identifier : ℕ) (help : Bool) (text : List ℕ) (rows : List Row) → IdentifiersApart rows → IdentifiersApart (withText identifier help text rows)
+pub apart-text : (applet identifier : ℕ) (help : Bool) (text : List ℕ) (rows : List Row) → IdentifiersApart rows → IdentifiersApart (withText applet identifier help text rows)
 unfolding withText
-apart-text n help text rows a = apart-change _ _ (λ r. refl) rows a
+apart-text n i help text rows a = apart-change _ _ (λ r. refl) rows a
 
-pub apart-enabled : (identifier : ℕ) (enabled : Bool) (rows : List Row) → IdentifiersApart rows → IdentifiersApart (withEnabled identifier enabled rows)
+pub apart-enabled : (applet identifier : ℕ) (enabled : Bool) (rows : List Row) → IdentifiersApart rows → IdentifiersApart (withEnabled applet identifier enabled rows)
 unfolding withEnabled
-apart-enabled n b rows a = apart-change _ _ (λ r. refl) rows a
+apart-enabled n i b rows a = apart-change _ _ (λ r. refl) rows a
 
 -- Every result stands in its one form again, whatever the table's: an insertion, a full list included, a deletion, a change, and a mark.
 module _ (s : Rows) (t : TidyRows s) where
@@ -108,10 +108,10 @@ module _ (s : Rows) (t : TidyRows s) where
   tidy-change : (p : Row → Bool) (f : Row → Row) → TidyRows (storedRows (change p f (viewRows s)))
   tidy-change p f = tidy-stored _ (omega (arith, few, length-change p f (viewRows s)))
 
-  pub tidy-text : (identifier : ℕ) (help : Bool) (text : List ℕ) → TidyRows (storedRows (withText identifier help text (viewRows s)))
+  pub tidy-text : (applet identifier : ℕ) (help : Bool) (text : List ℕ) → TidyRows (storedRows (withText applet identifier help text (viewRows s)))
   unfolding withText
-  tidy-text i help text = tidy-change _ _
+  tidy-text n i help text = tidy-change _ _
 
-  pub tidy-enabled : (identifier : ℕ) (enabled : Bool) → TidyRows (storedRows (withEnabled identifier enabled (viewRows s)))
+  pub tidy-enabled : (applet identifier : ℕ) (enabled : Bool) → TidyRows (storedRows (withEnabled applet identifier enabled (viewRows s)))
   unfolding withEnabled
-  tidy-enabled i b = tidy-change _ _
+  tidy-enabled n i b = tidy-change _ _

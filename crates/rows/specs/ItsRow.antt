@@ -1,22 +1,18 @@
--- The row of an applet with an identifier, and what the calls about entries leave of the menu list.
+-- What the calls about entries leave of the menu list.
 use Prim.Native.Nat.{ℕ}
 use mathlib.Core.Bool.{Bool, false, _&&_}
 use mathlib.Core.List.{List}
 use lib.ListN.{take}
-use Rattle.lists.specs.Tests.{if_then_else_, _==_}
+use Rattle.lists.specs.Tests.{if_then_else_}
 use Rattle.lists.specs.Lists.{some?, first, change}
 use Rattle.rules.specs.declared.Pair.{Pair}
 use Rattle.rules.specs.Holds.{Row, document}
-use Rattle.rules.specs.Rows.{identifierFor}
+use Rattle.rules.specs.Rows.{identifierFor, itsRow}
 use Rattle.rules.specs.Held.{noRow, storedRows}
 use Rattle.menu.specs.Table.{newRow, withRow}
 use Rattle.screen.specs.Asked.{turnsText, turnsEnabled}
 use Rattle.rows.specs.declared.Added.{Added}
 use Rattle.rows.specs.declared.Turned.{Turned}
-
--- the row has this identifier, and is this applet's
-abbrev pub itsRow : (applet identifier : ℕ) → Row → Bool
-itsRow n i r = r .identifier == i && r .owner == n
 
 -- a new entry: the rows with its row at the requested position, unless they are full, and the row's identifier
 unfoldable pub enteredBy : Pair → (owner : ℕ) (help : Bool) (text : List ℕ) → List Row → Added

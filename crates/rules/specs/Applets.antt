@@ -120,12 +120,12 @@ register t n Reserved b = t
 register t n Unsupported b = t
 
 -- a settled moment calls the applet: it is registered to proactive handler available, and selectable
-abbrev pub settles : Applet → Bool
-settles x = getD (x .events) handlerAvailable false && x .selectable
+abbrev pub calledWhenSettled : Applet → Bool
+calledWhenSettled x = getD (x .events) handlerAvailable false && x .selectable
 
 -- what a settled moment leaves of an applet: just those that it calls are unregistered
 unfoldable pub usedUp : Applet → Applet
-usedUp x = if settles x then withEvent handlerAvailable false x else x
+usedUp x = if calledWhenSettled x then withEvent handlerAvailable false x else x
 
 -- The order of call: smaller priority number first, and of equal priority the later installed first. The list is in order of
 -- installation, so its first is the oldest: it stands before the first of the others that has a larger number.

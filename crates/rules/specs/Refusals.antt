@@ -13,7 +13,7 @@
 --
 -- The calls that need no card (a fresh card, the menu reader, the bank alone) stand in Beside.
 use Prim.Native.Nat.{ℕ}
-use mathlib.Core.Bool.{Bool, false, not, _&&_}
+use mathlib.Core.Bool.{Bool, false, not, _&&_, _||_}
 use mathlib.Core.List.{List, [], _∷_}
 use lib.ListN.{length}
 use Rattle.lists.specs.Tests.{if_then_else_, _<?_}
@@ -39,14 +39,14 @@ pub record Line : Type 0 where
 abbrev pub line : ℕ → Bool → Line
 line n b = record { number = n; holds = b }
 
--- the number of the first line that holds; 0 where none does
+-- the number of the first line that holds, 0 where none does: the lowest, since the lines of every call rise (`lines-rise`, crates/runs)
 unfoldable pub lowest : List Line → ℕ
 lowest [] = 0
 lowest (x ∷ l) = if x .holds then x .number else lowest l
 
--- no such applet
+-- a number outside 1..8, or no such applet
 unfoldable pub absent : Tables → (applet : ℕ) → Bool
-absent t n = not (present t n)
+absent t n = not (isNumber (t .bounds) n) || not (present t n)
 
 -- refusal 15 is for timer management only
 unfoldable pub foreignTimer : Tables → (applet : ℕ) → Command → Bool

@@ -56,21 +56,25 @@ withEntry x help text rows =
     (record { identifier = nextIdentifier x rows; owner = x .number; text = text; help = help; enabled = true })
     rows
 
+-- the row has this identifier, and is this applet's
+abbrev pub itsRow : (applet identifier : ℕ) → Row → Bool
+itsRow n i r = r .identifier == i && r .owner == n
+
 -- refusal 11: the identifier is not a row of this applet
 unfoldable pub notItsRow : (applet identifier : ℕ) → List Row → Bool
-notItsRow n i rows = not (some? (λ (r : Row). r .identifier == i && r .owner == n) rows)
+notItsRow n i rows = not (some? (itsRow n i) rows)
 
 -- change gives a row a new text and help mark
-unfoldable pub withText : (identifier : ℕ) (help : Bool) (text : List ℕ) → List Row → List Row
-withText i help text rows =
-    change (hasIdentifier i)
+unfoldable pub withText : (applet identifier : ℕ) (help : Bool) (text : List ℕ) → List Row → List Row
+withText n i help text rows =
+    change (itsRow n i)
     (λ (r : Row). record { identifier = r .identifier; owner = r .owner; text = text; help = help; enabled = r .enabled })
     rows
 
 -- enable and disable
-unfoldable pub withEnabled : (identifier : ℕ) → Bool → List Row → List Row
-withEnabled i b rows =
-    change (hasIdentifier i)
+unfoldable pub withEnabled : (applet identifier : ℕ) → Bool → List Row → List Row
+withEnabled n i b rows =
+    change (itsRow n i)
     (λ (r : Row). record { identifier = r .identifier; owner = r .owner; text = r .text; help = r .help; enabled = b })
     rows
 

@@ -41,9 +41,9 @@ eventTables t (askEvent n v) = t
 unfoldable pub entryTables : Tables → EntryCall → Tables
 entryTables t (newEntry n help text) =
     withApplets (withRows t (withEntry (applet t n) help text (t .rows))) (change (hasNumber n) withOneMore (t .applets))
-entryTables t (changeEntry n i help text) = withRows t (withText i help text (t .rows))
-entryTables t (enableEntry n i) = withRows t (withEnabled i true (t .rows))
-entryTables t (disableEntry n i) = withRows t (withEnabled i false (t .rows))
+entryTables t (changeEntry n i help text) = withRows t (withText n i help text (t .rows))
+entryTables t (enableEntry n i) = withRows t (withEnabled n i true (t .rows))
+entryTables t (disableEntry n i) = withRows t (withEnabled n i false (t .rows))
 
 unfoldable pub timerTables : Tables → TimerCall → Tables
 timerTables t (allocate n) = withTimers t (withAllocated (t .timers) n)

@@ -17,13 +17,14 @@ use Rattle.rules.specs.declared.Kind.the-variants.{Event, Issuer, Reserved, Uns
 use Rattle.rules.specs.Holds.{Applet, Tables, Model, withApplets, withControl, withRows, withState, withSelectable, withEvent}
 use Rattle.rules.specs.Events.{callControl, kindOf, notSupported, notToSet, isControl}
 use Rattle.rules.specs.Applets.{hasNumber, present, applet, nobody, registered, isRegistered, ownedByAnother, forget, withRegistration, register}
-use Rattle.rules.specs.Rows.{hasIdentifier, notItsRow, withEnabled}
+use Rattle.rules.specs.Rows.{itsRow, notItsRow, withEnabled}
 use Rattle.rules.specs.Held.{noRow}
 use Rattle.rules.specs.Desk.{marked}
 use Rattle.rules.specs.Calls.{Outcome, accepted, admin, event, entry, lock, unlock, setEvent, clearEvent, enableEntry, disableEntry}
 use Rattle.rules.specs.Refusals.{lowest, absent, adminLines, eventLines, entryLines, lines, refusal}
 use Rattle.rules.specs.Step.{adminTables, eventTables, entryTables, tablesAfter, deskAfter, changed, eventAnswer, entryAnswer, answer, written, outcome, step}
 use Rattle.rules.proofs.DueMarks.{marked-same}
+use Rattle.runs.proofs.Filled.{is-here}
 use Rattle.runs.proofs.Looked.{has-its-number}
 
 -- accepted, with no answer but that, and the card as it was
@@ -45,7 +46,10 @@ change-still {A} p f d (x ∷ l) e = go (p x) e (change-still p f d l)
 tables-same : (m : Model) (t : Tables) → t ≡ m .tables → _≡_ {A = Model} (record { tables = t; desk = marked (m .tables) t (m .desk) }) m
 tables-same m t e = ap (λ (u : Tables). record { tables = u; desk = marked (m .tables) u (m .desk) }) e ∙ ap (λ d. record { tables = m .tables; desk = d }) (marked-same (m .tables) (m .desk))
 
-module _ (m : Model) (n : ℕ) (here : present (m .tables) n ≡ true) where
+module _ (m : Model) (n : ℕ) (found : absent (m .tables) n ≡ false) where
+  here : present (m .tables) n ≡ true
+  here = is-here (m .tables) n found
+
   -- the applet looked up, written again as it is
   still : (f : Applet → Applet) → f (applet (m .tables) n) ≡ applet (m .tables) n
       → withApplets (m .tables) (change (hasNumber n) f (m .tables .applets)) ≡ m .tables
@@ -58,12 +62,12 @@ module _ (m : Model) (n : ℕ) (here : present (m .tables) n ≡ true) where
 
   -- TO LOCK a locked applet, and TO UNLOCK a selectable one, is accepted and changes nothing.
   pub lock-a-locked-one : applet (m .tables) n .selectable ≡ false → step m (admin (lock n)) ≡ nothingDone m
-  unfolding step outcome changed tablesAfter adminTables deskAfter answer written refusal lines adminLines absent lowest
-  lock-a-locked-one e = rw here (ap (λ (k : Model). nothingDone k) (tables-same m _ (selectable-still false e)))
+  unfolding step outcome changed tablesAfter adminTables deskAfter answer written refusal lines adminLines lowest
+  lock-a-locked-one e = rw found (ap (λ (k : Model). nothingDone k) (tables-same m _ (selectable-still false e)))
 
   pub unlock-a-selectable-one : applet (m .tables) n .selectable ≡ true → step m (admin (unlock n)) ≡ nothingDone m
-  unfolding step outcome changed tablesAfter adminTables deskAfter answer written refusal lines adminLines absent lowest
-  unlock-a-selectable-one e = rw here (ap (λ (k : Model). nothingDone k) (tables-same m _ (selectable-still true e)))
+  unfolding step outcome changed tablesAfter adminTables deskAfter answer written refusal lines adminLines lowest
+  unlock-a-selectable-one e = rw found (ap (λ (k : Model). nothingDone k) (tables-same m _ (selectable-still true e)))
 
   -- a registration as it is
   register-still : (k : Kind) (b : Bool) → isRegistered (m .tables) n k ≡ b → register (m .tables) n k b ≡ m .tables
@@ -104,30 +108,30 @@ module _ (m : Model) (n : ℕ) (here : present (m .tables) n ≡ true) where
   -- TO SET an event that is registered, and TO CLEAR one that is not, is accepted and changes nothing.
   module _ (v : ℤ) (may : notToSet (kindOf v) ≡ false) where
     pub set-a-registered-one : isRegistered (m .tables) n (kindOf v) ≡ true → step m (event (setEvent n v)) ≡ nothingDone m
-    unfolding step outcome changed tablesAfter eventTables deskAfter answer eventAnswer written refusal lines eventLines absent lowest
+    unfolding step outcome changed tablesAfter eventTables deskAfter answer eventAnswer written refusal lines eventLines lowest
     set-a-registered-one e =
-        rw (here, registered-supported (kindOf v) e, may, own-control (kindOf v) e)
+        rw (found, registered-supported (kindOf v) e, may, own-control (kindOf v) e)
         (ap (λ (k : Model). nothingDone k) (tables-same m _ (register-still (kindOf v) true e)))
 
     pub clear-an-unregistered-one : notSupported (kindOf v) ≡ false → isRegistered (m .tables) n (kindOf v) ≡ false
         → step m (event (clearEvent n v)) ≡ nothingDone m
-    unfolding step outcome changed tablesAfter eventTables deskAfter answer eventAnswer written refusal lines eventLines absent lowest
-    clear-an-unregistered-one known e = rw (here, known, may) (ap (λ (k : Model). nothingDone k) (tables-same m _ (register-still (kindOf v) false e)))
+    unfolding step outcome changed tablesAfter eventTables deskAfter answer eventAnswer written refusal lines eventLines lowest
+    clear-an-unregistered-one known e = rw (found, known, may) (ap (λ (k : Model). nothingDone k) (tables-same m _ (register-still (kindOf v) false e)))
 
   -- TO ENABLE an enabled row of the applet, and TO DISABLE a disabled one, is accepted and changes nothing.
   module _ (i : ℕ) (its : notItsRow n i (m .tables .rows) ≡ false) where
-    enabled-still : (b : Bool) → first (hasIdentifier i) noRow (m .tables .rows) .enabled ≡ b → withRows (m .tables) (withEnabled i b (m .tables .rows)) ≡ m .tables
+    enabled-still : (b : Bool) → first (itsRow n i) noRow (m .tables .rows) .enabled ≡ b → withRows (m .tables) (withEnabled n i b (m .tables .rows)) ≡ m .tables
     unfolding withEnabled
     enabled-still b e =
-        let r = first (hasIdentifier i) noRow (m .tables .rows) in
+        let r = first (itsRow n i) noRow (m .tables .rows) in
         ap (withRows (m .tables))
-        (change-still (hasIdentifier i) _ noRow (m .tables .rows)
+        (change-still (itsRow n i) _ noRow (m .tables .rows)
         (ap (λ (c : Bool). record { identifier = r .identifier; owner = r .owner; text = r .text; help = r .help; enabled = c }) (sym e)))
 
-    pub enable-an-enabled-row : first (hasIdentifier i) noRow (m .tables .rows) .enabled ≡ true → step m (entry (enableEntry n i)) ≡ nothingDone m
-    unfolding step outcome changed tablesAfter entryTables deskAfter answer entryAnswer written refusal lines entryLines absent lowest
-    enable-an-enabled-row e = rw (here, its) (ap (λ (k : Model). nothingDone k) (tables-same m _ (enabled-still true e)))
+    pub enable-an-enabled-row : first (itsRow n i) noRow (m .tables .rows) .enabled ≡ true → step m (entry (enableEntry n i)) ≡ nothingDone m
+    unfolding step outcome changed tablesAfter entryTables deskAfter answer entryAnswer written refusal lines entryLines lowest
+    enable-an-enabled-row e = rw (found, its) (ap (λ (k : Model). nothingDone k) (tables-same m _ (enabled-still true e)))
 
-    pub disable-a-disabled-row : first (hasIdentifier i) noRow (m .tables .rows) .enabled ≡ false → step m (entry (disableEntry n i)) ≡ nothingDone m
-    unfolding step outcome changed tablesAfter entryTables deskAfter answer entryAnswer written refusal lines entryLines absent lowest
-    disable-a-disabled-row e = rw (here, its) (ap (λ (k : Model). nothingDone k) (tables-same m _ (enabled-still false e)))
+    pub disable-a-disabled-row : first (itsRow n i) noRow (m .tables .rows) .enabled ≡ false → step m (entry (disableEntry n i)) ≡ nothingDone m
+    unfolding step outcome changed tablesAfter entryTables deskAfter answer entryAnswer written refusal lines entryLines lowest
+    disable-a-disabled-row e = rw (found, its) (ap (λ (k : Model). nothingDone k) (tables-same m _ (enabled-still false e)))

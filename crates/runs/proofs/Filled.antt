@@ -3,7 +3,7 @@
 use Prim.Native.Nat.{ℕ, _+_, _≤_, _<_, min}
 use native.Mathlib.Omega.{arith}
 use mathlib.Core.Path.{_≡_}
-use mathlib.Core.Bool.{Bool, true, false, _&&_}
+use mathlib.Core.Bool.{Bool, true, false, not, _&&_}
 use mathlib.Core.List.{List}
 use lib.ListN.{length}
 use borrow.Author.Tests.{eqb-false, ltb-false, leb-true, leb-false, not-false}
@@ -15,7 +15,7 @@ use Rattle.rules.specs.declared.Pair.{Pair}
 use Rattle.rules.specs.declared.Request.{Request}
 use Rattle.rules.specs.Holds.{Applet, Row, Bounds, Tables, Model}
 use Rattle.rules.specs.Applets.{isNumber, present, applet, lookedAt, outOfRange, entries, tooMany, clash}
-use Rattle.rules.specs.Rows.{allMade, badText, notItsRow}
+use Rattle.rules.specs.Rows.{allMade, badText, itsRow, notItsRow}
 use Rattle.rules.specs.Timers.{lowestFree, atLimit, noneFree, ownerOf, notItsTimer}
 use Rattle.rules.specs.Calls.{admin, entry, timer, install, newEntry, changeEntry, allocate, release}
 use Rattle.rules.specs.Refusals.{absent, lines, adminLines, entryLines, timerLines, refusal}
@@ -24,7 +24,12 @@ use Rattle.runs.proofs.Accepted.{accepted}
 -- a call that names an applet finds it
 pub is-here : (t : Tables) (n : ℕ) → absent t n ≡ false → present t n ≡ true
 unfolding absent
-is-here t n e = not-false (present t n) e
+is-here t n e = not-false (present t n) (neither (not (isNumber (t .bounds) n)) (not (present t n)) e .1)
+
+-- .. and its row
+pub is-its : (rows : List Row) (n i : ℕ) → notItsRow n i rows ≡ false → some? (itsRow n i) rows ≡ true
+unfolding notItsRow
+is-its rows n i e = not-false (some? (itsRow n i) rows) e
 
 -- install
 pub record Installs (t : Tables) (n : ℕ) (r : Request) : Type 0 where
@@ -99,14 +104,14 @@ new-entry m n help text e =
 -- change entry
 pub record ChangesEntry (t : Tables) (n i : ℕ) (text : List ℕ) : Type 0 where
   pub here : present t n ≡ true
-  pub its : some? (λ (r : Row). r .identifier == i && r .owner == n) (t .rows) ≡ true
+  pub its : some? (itsRow n i) (t .rows) ≡ true
   pub fits : Fitting (applet t n) text
 
 pub changes-entry : (m : Model) (n i : ℕ) (help : Bool) (text : List ℕ) → refusal m (entry (changeEntry n i help text)) ≡ 0 → ChangesEntry (m .tables) n i text
-unfolding Every lines entryLines notItsRow
+unfolding Every lines entryLines
 changes-entry m n i help text e =
     let a = accepted m (entry (changeEntry n i help text)) e in
-    record { here = is-here (m .tables) n (a .0); its = not-false _ (a .1 .0); fits = fitting (applet (m .tables) n) text (a .1 .1 .0) }
+    record { here = is-here (m .tables) n (a .0); its = is-its (m .tables .rows) n i (a .1 .0); fits = fitting (applet (m .tables) n) text (a .1 .1 .0) }
 
 -- allocate timer
 pub record Allocates (t : Tables) (n : ℕ) : Type 0 where

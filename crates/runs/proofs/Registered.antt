@@ -17,7 +17,7 @@ use Rattle.rules.specs.declared.Kind.{Kind}
 use Rattle.rules.specs.declared.Kind.the-variants.{Event, Issuer, Reserved, Unsupported}
 use Rattle.rules.specs.Holds.{Applet, Tables, Model, withApplets, withControl, withSelectable, withEvent}
 use Rattle.rules.specs.Events.{kindOf, callControl, handlerAvailable}
-use Rattle.rules.specs.Applets.{hasNumber, present, nobody, forget, withRegistration, register, settles, usedUp}
+use Rattle.rules.specs.Applets.{hasNumber, present, nobody, forget, withRegistration, register, calledWhenSettled, usedUp}
 use Rattle.rules.specs.Calls.{EventCall, event, setEvent, clearEvent, askEvent}
 use Rattle.rules.specs.Refusals.{lines, eventLines, refusal}
 use Rattle.rules.specs.Step.{eventTables}
@@ -56,7 +56,7 @@ event-sound m (askEvent n v) e g = g
 
 used-same : (x : Applet) → SameApplet x (usedUp x)
 unfolding usedUp
-used-same x = if-holds (SameApplet x) (settles x) (λ h. search (event-same, same-self)) (λ h. search (event-same, same-self))
+used-same x = if-holds (SameApplet x) (calledWhenSettled x) (λ h. search (event-same, same-self)) (λ h. search (event-same, same-self))
 
 pub used-event : (x : Applet) (e : ℕ) → getD (usedUp x .events) e false ≡ (if e == handlerAvailable && x .selectable then false else getD (x .events) e false)
 unfolding usedUp

@@ -20,7 +20,7 @@ use Rattle.rules.specs.declared.Kind.{Kind}
 use Rattle.rules.specs.declared.Kind.the-variants.{Event, Issuer, Reserved, Unsupported}
 use Rattle.rules.specs.Holds.{Applet, Row, Tables, withApplets, withSelectable, withEvent, withControl, withOneMore}
 use Rattle.rules.specs.Events.{callControl, handlerAvailable}
-use Rattle.rules.specs.Applets.{hasNumber, present, applet, nobody, newcomer, forget, settles, usedUp, register, withRegistration}
+use Rattle.rules.specs.Applets.{hasNumber, present, applet, nobody, newcomer, forget, calledWhenSettled, usedUp, register, withRegistration}
 use Rattle.rules.specs.Rows.{withoutRows, withEntry, place, nextPair, nextIdentifier}
 use Rattle.rules.specs.Commands.{selectable, shownMenu}
 use Rattle.rules.specs.Calls.{install, delete, newEntry}
@@ -170,7 +170,7 @@ controlled t c o = refl
 
 used-alike : (t : Tables) (o : ℕ) → selectable (withApplets t (map usedUp (t .applets))) o ≡ selectable t o
 unfolding selectable usedUp
-used-alike t o = sym (map-some usedUp _ (t .applets)) ∙ some-alike _ _ (t .applets) (λ x. go x (settles x))
+used-alike t o = sym (map-some usedUp _ (t .applets)) ∙ some-alike _ _ (t .applets) (λ x. go x (calledWhenSettled x))
   where
     go : (x : Applet) (b : Bool) → ((if b then withEvent handlerAvailable false x else x) .number == o && (if b then withEvent handlerAvailable false x else x) .selectable) ≡ (x .number == o && x .selectable)
     go x true = refl

@@ -11,12 +11,11 @@ use Rattle.lists.proofs.Truth.{and-true, beq-self}
 use Rattle.lists.proofs.Alike.{same-self}
 use Rattle.lists.proofs.Alike as alike
 use Rattle.rules.specs.Holds.{Row, Tables, withRows}
-use Rattle.rules.specs.Rows.{hasIdentifier, inUse, withText, withEnabled}
+use Rattle.rules.specs.Rows.{itsRow, withText, withEnabled}
 use Rattle.rules.specs.Commands.{selectable, shownMenu}
 use Rattle.rules.specs.Desk.{sameRow?, menuChanges}
 use Rattle.rules.specs.Held.{noRow}
 use Rattle.rules.proofs.DueMarks.{row-self}
-use Rattle.menu.specs.Table.{rowWith}
 use Rattle.screen.specs.Asked.{turnsText, turnsEnabled}
 
 -- the lists of rows are not the same
@@ -70,18 +69,21 @@ mark-turns r b s k = rw k (go (r .enabled) b (s r) same)
     go false false true h = refl
     go false false false h = refl
 
-module _ (t : Tables) (i : ℕ) (there : inUse i (t .rows) ≡ true) where
-  pub text-menu : (help : Bool) (text : List ℕ) → menuChanges t (withRows t (withText i help text (t .rows))) ≡ (selectable t (rowWith i (t .rows) .owner) && turnsText help text (rowWith i (t .rows)))
-  unfolding menuChanges shownMenu withText inUse rowWith selectable
-  text-menu help text =
-      differ-change _ (hasIdentifier i) _ noRow (t .rows) there
-      ∙ text-turns (rowWith i (t .rows)) help text (λ (r : Row). selectable t (r .owner)) refl
+module _ (t : Tables) (n i : ℕ) (there : some? (itsRow n i) (t .rows) ≡ true) where
+  abbrev its : Row
+  its = first (itsRow n i) noRow (t .rows)
 
-  pub enabled-menu : (b : Bool) → menuChanges t (withRows t (withEnabled i b (t .rows))) ≡ (selectable t (rowWith i (t .rows) .owner) && turnsEnabled b (rowWith i (t .rows)))
-  unfolding menuChanges shownMenu withEnabled inUse rowWith selectable
+  pub text-menu : (help : Bool) (text : List ℕ) → menuChanges t (withRows t (withText n i help text (t .rows))) ≡ (selectable t (its .owner) && turnsText help text its)
+  unfolding menuChanges shownMenu withText selectable
+  text-menu help text =
+      differ-change _ (itsRow n i) _ noRow (t .rows) there
+      ∙ text-turns its help text (λ (r : Row). selectable t (r .owner)) refl
+
+  pub enabled-menu : (b : Bool) → menuChanges t (withRows t (withEnabled n i b (t .rows))) ≡ (selectable t (its .owner) && turnsEnabled b its)
+  unfolding menuChanges shownMenu withEnabled selectable
   enabled-menu b =
-      differ-change _ (hasIdentifier i) _ noRow (t .rows) there
-      ∙ mark-turns (rowWith i (t .rows)) b (λ (r : Row). selectable t (r .owner)) refl
+      differ-change _ (itsRow n i) _ noRow (t .rows) there
+      ∙ mark-turns its b (λ (r : Row). selectable t (r .owner)) refl
 
 -- Rows that appear or disappear: of two selections of a list, the second takes also what passes d.
 module _ (p q d : Row → Bool) (more : (r : Row) → q r ≡ (p r || d r)) (apart : (r : Row) → (p r && d r) ≡ false) (l : List Row) where

@@ -10,7 +10,7 @@ use Rattle.lists.proofs.Search.{Sought, sought-none, sought-more}
 use Rattle.lists.proofs.Truth.{and-left}
 use Rattle.rules.specs.Held.{viewRows}
 use Rattle.menu.proofs.Tidy.{long}
-use Rattle.rows.specs.ItsRow.{itsRow}
+use Rattle.rules.specs.Rows.{itsRow}
 use Rattle.rows.proofs.Changes.{isRow, in-array, at-end, at-row, none-reworded, old-tidy, one-reworded}
 use borrow.Author.Needs.{needs}
 use Rattle.rows.proofs.changed.Statement.{statement}

@@ -9,7 +9,7 @@ use Rattle.lists.specs.Lists.{indexOf}
 use Rattle.lists.proofs.Search.{Sought, sought-none, sought-more}
 use Rattle.rules.specs.Held.{viewRows}
 use Rattle.menu.proofs.Tidy.{long}
-use Rattle.rows.specs.ItsRow.{itsRow}
+use Rattle.rules.specs.Rows.{itsRow}
 use Rattle.rows.proofs.Changes.{isRow, in-array, at-end, at-row, none-marked, one-marked}
 use borrow.Author.Needs.{needs}
 use Rattle.rows.proofs.enabled.Statement.{statement}
