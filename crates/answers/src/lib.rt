@@ -1,86 +1,54 @@
-// The line of an answer, by what was asked for.
-use asks::Ask;
-use asks::Gift;
-use lines::Refusal;
-use lines::write_line;
+// The answer of a call, one struct for every call, made of the refusal's number (0: none) and of what an accepted call tells.
+// What it holds of each answer stands in `rules`, specs/Held.antt.
 use rules::Answer;
-use texts::first;
+use rules::Marks;
+use rules::Roll;
 ghost use mathlib.Core.Path.{_≡_};
-ghost use mathlib.Core.List.{[]};
-ghost use Prim.Native.Nat.{ℕ, _≤_};
-ghost use lib.ListN.{length, take};
-ghost use Rattle.lists.specs.Wrote.{Wrote};
-ghost use Rattle.rules.specs.Floor.{decimal, lineOf};
-ghost use Rattle.lines.specs.Texts.{refusalText};
-ghost use Rattle.answers.specs.Shown.{answerLine, shownGift, lineBy};
+ghost use Rattle.lists.specs.Tests.{if_then_else_, _==_};
+ghost use Rattle.rules.specs.Calls.{plainly, refusedWith, numbered, saying};
+ghost use Rattle.rules.specs.Held.{storedAnswer};
 
-// A line that shows nothing but the refusal.
-fn write_plain(buf: &mut [u8], number: &[u8], letter: u8, refusal: Refusal) -> usize
-    requires { ⌜ (length (now number) ≤ 20) × (540 ≤ length (now buf)) ⌝ }
-    ensures { λ r. ⌜ ((k : ℕ) → now (number .entry) ≡ decimal k → Wrote (now (buf .entry)) 0 (lineOf k letter (refusalText refusal) []) (now (buf .exit)) r) ⌝ }
+// An answer that names nobody.
+fn plain(refusal: u8, number: u8, says: bool) -> Answer
+    ensures { λ r. ⌜ r ≡ storedAnswer (plainly refusal number says) ⌝ }
 {
-    let none = [0];
-    write_line(buf, number, letter, refusal, &none[..0])
-}
-
-// The line of a call that gives a number; a system command stands at the front of out.
-fn write_gift(
-    buf: &mut [u8],
-    number: &[u8],
-    letter: u8,
-    gift: Gift,
-    answer: Answer,
-    out: &[u8],
-) -> usize
-    requires { ⌜ (length (now number) ≤ 20) × (540 ≤ length (now buf)) ⌝ }
-    ensures { λ r. ⌜ ((k : ℕ) → now (number .entry) ≡ decimal k → Wrote (now (buf .entry)) 0 (answerLine k letter answer (shownGift gift answer (now (out .entry)))) (now (buf .exit)) r) ⌝ }
-{
-    let refusal = answer.refusal;
-    if refusal != 0 {
-        return write_plain(buf, number, letter, Refusal::Number(refusal));
-    }
-    let one = [answer.number];
-    match gift {
-        Gift::NewEntry => write_line(buf, number, letter, Refusal::Number(0), &one),
-        Gift::Allocate => write_line(buf, number, letter, Refusal::Number(0), &one),
-        Gift::SystemCommand => {
-            let n = answer.number as usize;
-            write_line(buf, number, letter, Refusal::Number(0), first(out, n))
-        }
+    Answer {
+        refusal,
+        number,
+        says,
+        called: [0; Roll::APPLETS],
+        count: 0,
+        marks: Marks {
+            proactive: false,
+            envelope: false,
+            response: false,
+        },
     }
 }
 
-// The line of an arrival: those called, one byte each.
-fn write_called(buf: &mut [u8], number: &[u8], letter: u8, answer: Answer) -> usize
-    requires { ⌜ (length (now number) ≤ 20) × (540 ≤ length (now buf)) ⌝ }
-    ensures { λ r. ⌜ ((k : ℕ) → now (number .entry) ≡ decimal k → Wrote (now (buf .entry)) 0 (answerLine k letter answer (take (answer .count) (answer .called))) (now (buf .exit)) r) ⌝ }
+// The refusal, or that the call is accepted.
+pub fn of_refusal(refusal: u8) -> Answer
+    ensures { λ r. ⌜ r ≡ storedAnswer (refusedWith refusal) ⌝ }
 {
-    let refusal = answer.refusal;
-    if refusal != 0 {
-        return write_plain(buf, number, letter, Refusal::Number(refusal));
-    }
-    let called = answer.called;
-    let n = answer.count as usize;
-    write_line(buf, number, letter, Refusal::Number(0), first(&called, n))
+    plain(refusal, 0, false)
 }
 
-// The line of what was asked for and answered, at the front of the buffer; how many bytes it has.
-pub fn write_answer(
-    buf: &mut [u8],
-    number: &[u8],
-    letter: u8,
-    ask: Ask,
-    answer: Answer,
-    out: &[u8],
-) -> usize
-    requires { ⌜ (length (now number) ≤ 20) × (540 ≤ length (now buf)) ⌝ }
-    ensures { λ r. ⌜ ((k : ℕ) → now (number .entry) ≡ decimal k → Wrote (now (buf .entry)) 0 (lineBy k letter ask answer (now (out .entry))) (now (buf .exit)) r) ⌝ }
+// The refusal, or a number.
+pub fn of_number(refusal: u8, number: u8) -> Answer
+    ensures { λ r. ⌜ r ≡ storedAnswer (if refusal == 0 then numbered number else refusedWith refusal) ⌝ }
 {
-    let refusal = Refusal::Number(answer.refusal);
-    match ask {
-        Ask::Deed(_) => write_plain(buf, number, letter, refusal),
-        Ask::Gift(gift) => write_gift(buf, number, letter, gift, answer, out),
-        Ask::Arrival(_) => write_called(buf, number, letter, answer),
-        Ask::Unknown => write_plain(buf, number, letter, Refusal::NoCall),
+    if refusal == 0 {
+        return plain(0, number, false);
     }
+    plain(refusal, 0, false)
+}
+
+// The refusal, or a yes or no.
+pub fn of_yes_or_no(refusal: u8, yes: bool) -> Answer
+    ensures { λ r. ⌜ r ≡ storedAnswer (if refusal == 0 then saying yes else refusedWith refusal) ⌝ }
+{
+    if refusal == 0 {
+        return plain(0, 0, yes);
+    }
+    plain(refusal, 0, false)
 }

@@ -25,8 +25,8 @@ use Rattle.rules.specs.Arrivals.{Arrival, event, choice, help, expiry, nothing,
 use Rattle.runs.specs.Sound.{SoundTables}
 use Rattle.events.proofs.Places.{Among, named-among}
 use Rattle.applets.specs.ByNumber.{at, registeredSet}
-use Rattle.screen.specs.Asked.{askedOwner}
-use Rattle.screen.proofs.Promise.{choice-calls, help-calls}
+use Rattle.menu_shown.specs.Asked.{askedOwner}
+use Rattle.menu_shown.proofs.Promise.{choice-calls, help-calls}
 use Rattle.arrivals.specs.Whom.{IsFor, ForCode}
 
 module _ (t : Tables) where

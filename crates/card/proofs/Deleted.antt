@@ -34,9 +34,9 @@ use Rattle.applets.proofs.Made.{made-set}
 use Rattle.applets.specs.Rolls.{rollWithout}
 use Rattle.lists.proofs.Tables.{table-length}
 use Rattle.applets.proofs.Removed.{registered-less, all-less, selectable-less, made-less, roll-less}
-use Rattle.screen.specs.Asked.{hasEnabledRow}
-use Rattle.screen.proofs.MenuByApplets.{delete-menu}
-use Rattle.downloads.specs.Turns.{anyCode, codeTurns}
+use Rattle.menu_shown.specs.Asked.{hasEnabledRow}
+use Rattle.menu_shown.proofs.MenuByApplets.{delete-menu}
+use Rattle.events_shown.specs.Turns.{anyCode, codeTurns}
 use Rattle.card.specs.declared.Card.{Card}
 use Rattle.card.specs.declared.Reply.{Reply}
 use Rattle.card.specs.View.{view, stored, Left}

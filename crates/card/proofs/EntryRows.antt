@@ -31,11 +31,11 @@ use Rattle.runs.specs.Sound.{SoundRow, SoundTables}
 use Rattle.runs.proofs.Looked.{sound-applet, number-from, number-to}
 use Rattle.runs.proofs.Filled.{ChangesEntry, changes-entry}
 use Rattle.applets.specs.ByNumber.{byNumber, grantOf, rollOf, selectableSet, registeredSet, madeTable}
-use Rattle.screen.proofs.RowTurns.{enabled-shows, text-shows}
-use Rattle.rows.specs.declared.Turned.{Turned}
-use Rattle.rows.specs.ItsRow.{markedBy, rewordedBy}
-use Rattle.rows.proofs.Its.{its-known, its-marked, its-reworded, none-marked, none-reworded, kept-reworded, marked-says, reworded-says}
-use Rattle.downloads.proofs.Quiet.{rows-events}
+use Rattle.menu_shown.proofs.RowTurns.{enabled-shows, text-shows}
+use Rattle.menu_entries.specs.declared.Turned.{Turned}
+use Rattle.menu_entries.specs.ItsRow.{markedBy, rewordedBy}
+use Rattle.menu_entries.proofs.Its.{its-known, its-marked, its-reworded, none-marked, none-reworded, kept-reworded, marked-says, reworded-says}
+use Rattle.events_shown.proofs.Quiet.{rows-events}
 use Rattle.refusals.specs.Lines.{unfitText}
 use Rattle.refusals.proofs.Calls.{turning, turn-refusal, change-refusal}
 use Rattle.card.specs.declared.Card.{Card}

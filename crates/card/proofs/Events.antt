@@ -35,9 +35,9 @@ use Rattle.runs.proofs.Looked.{sound-applet}
 use Rattle.runs.proofs.Registered.{changed-sound}
 use Rattle.applets.specs.ByNumber.{at, rollOf, selectableSet, registeredSet, madeTable}
 use Rattle.applets.proofs.Numbers.{at-change, roll-kept, selectable-kept, registered-kept, made-kept}
-use Rattle.screen.proofs.MenuByApplets.{register-menu}
-use Rattle.downloads.specs.Turns.{isDownload, eventsTurn}
-use Rattle.downloads.proofs.Quiet.{control-events}
+use Rattle.menu_shown.proofs.MenuByApplets.{register-menu}
+use Rattle.events_shown.specs.Turns.{isDownload, eventsTurn}
+use Rattle.events_shown.proofs.Quiet.{control-events}
 use Rattle.refusals.proofs.Calls.{eventRefusal, event-known}
 use Rattle.card.specs.declared.Card.{Card}
 use Rattle.card.specs.declared.Reply.{Reply}

@@ -28,16 +28,16 @@ use Rattle.rules.specs.Refusals.{refusal, line, lines, lowest}
 use Rattle.rules.specs.Step.{step, outcome, changed, tablesAfter, deskAfter, answer, front, written, lent}
 use Rattle.rules.proofs.DueMarks.{marked-same, first-due, first-handed}
 use Rattle.rules.proofs.Listed.{length-most}
-use Rattle.command.specs.Fits.{Fits, shownOf}
-use Rattle.command.proofs.Lines.{rows-under}
-use Rattle.command.proofs.Whole.{menu-most}
+use Rattle.commands.specs.Fits.{Fits, shownOf}
+use Rattle.commands.proofs.Lines.{rows-under}
+use Rattle.commands.proofs.Whole.{menu-most}
 use Rattle.refusals.proofs.Calls.{hand-room}
-use Rattle.screen.specs.Asked.{isShown}
-use Rattle.screen.proofs.BySet.{shown-by}
-use Rattle.downloads.specs.declared.Codes.{Codes}
-use Rattle.downloads.specs.Listed.{codesFrom, codesOf}
-use Rattle.downloads.specs.Turns.{isListened}
-use Rattle.downloads.proofs.Listed.{few-codes, events-by}
+use Rattle.menu_shown.specs.Asked.{isShown}
+use Rattle.menu_shown.proofs.BySet.{shown-by}
+use Rattle.events_shown.specs.declared.Codes.{Codes}
+use Rattle.events_shown.specs.Listed.{codesFrom, codesOf}
+use Rattle.events_shown.specs.Turns.{isListened}
+use Rattle.events_shown.proofs.Listed.{few-codes, events-by}
 use Rattle.card.specs.declared.Card.{Card}
 use Rattle.card.specs.declared.Reply.{Reply}
 use Rattle.card.specs.View.{view, stored, Left}

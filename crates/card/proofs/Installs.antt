@@ -33,9 +33,9 @@ use Rattle.runs.specs.Sound.{SoundApplet, SoundTables}
 use Rattle.runs.proofs.Looked.{each-found, absent-nobody}
 use Rattle.runs.proofs.Filled.{Installs, installs}
 use Rattle.runs.proofs.Installed.{install-room}
-use Rattle.screen.specs.Asked.{isEnabledOf, hasEnabledRow}
-use Rattle.screen.proofs.MenuByApplets.{install-menu}
-use Rattle.downloads.proofs.Quiet.{install-events}
+use Rattle.menu_shown.specs.Asked.{isEnabledOf, hasEnabledRow}
+use Rattle.menu_shown.proofs.MenuByApplets.{install-menu}
+use Rattle.events_shown.proofs.Quiet.{install-events}
 use Rattle.applets.specs.ByNumber.{at, grantOf, rollOf, selectableSet, registeredSet, madeTable}
 use Rattle.applets.specs.Rolls.{rollWith}
 use Rattle.applets.proofs.Joined.{at-more, set-more, roll-more}

@@ -17,8 +17,8 @@ use Rattle.rules.specs.Commands.{listened}
 use Rattle.rules.specs.Desk.{eventsChange}
 use Rattle.runs.specs.Sound.{SoundTables}
 use Rattle.applets.specs.ByNumber.{selectableSet, registeredSet}
-use Rattle.downloads.specs.Turns.{anyCode, isDownload, eventsTurn, codeTurns}
-use Rattle.downloads.proofs.Shown.{changes-at, found-from, listened-meets}
+use Rattle.events_shown.specs.Turns.{anyCode, isDownload, eventsTurn, codeTurns}
+use Rattle.events_shown.proofs.Shown.{changes-at, found-from, listened-meets}
 use Rattle.card.specs.declared.Card.{Card}
 use Rattle.card.specs.View.{view, Left}
 use Rattle.card.proofs.Left.{left-sound, left-bounds}

@@ -25,10 +25,10 @@ use Rattle.runs.proofs.Looked.{number-from, number-to}
 use Rattle.runs.proofs.Registered.{changed-sound, selectable-same}
 use Rattle.applets.specs.ByNumber.{at, selectableSet, registeredSet}
 use Rattle.applets.proofs.Numbers.{at-change, roll-kept, registered-kept, made-kept}
-use Rattle.screen.specs.Asked.{hasEnabledRow}
-use Rattle.screen.proofs.MenuByApplets.{lock-menu}
-use Rattle.downloads.specs.Turns.{anyCode, codeTurns}
-use Rattle.downloads.proofs.Shown.{no-turn}
+use Rattle.menu_shown.specs.Asked.{hasEnabledRow}
+use Rattle.menu_shown.proofs.MenuByApplets.{lock-menu}
+use Rattle.events_shown.specs.Turns.{anyCode, codeTurns}
+use Rattle.events_shown.proofs.Shown.{no-turn}
 use Rattle.card.specs.declared.Card.{Card}
 use Rattle.card.specs.declared.Reply.{Reply}
 use Rattle.card.specs.View.{view, stored, Left}

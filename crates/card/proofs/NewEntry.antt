@@ -28,10 +28,10 @@ use Rattle.applets.specs.ByNumber.{byNumber, grantOf, madeWith}
 use Rattle.applets.proofs.Numbers.{roll-kept, selectable-kept, registered-kept}
 use Rattle.applets.proofs.Made.{made-more, pair-next}
 use Rattle.menu.proofs.Tidy.{inserted-room}
-use Rattle.rows.specs.declared.Added.{Added}
-use Rattle.rows.specs.ItsRow.{enteredBy}
-use Rattle.screen.proofs.MenuByApplets.{entry-menu}
-use Rattle.downloads.proofs.Quiet.{entry-events}
+use Rattle.menu_entries.specs.declared.Added.{Added}
+use Rattle.menu_entries.specs.ItsRow.{enteredBy}
+use Rattle.menu_shown.proofs.MenuByApplets.{entry-menu}
+use Rattle.events_shown.proofs.Quiet.{entry-events}
 use Rattle.refusals.specs.Lines.{unfitText}
 use Rattle.refusals.proofs.Calls.{new-refusal}
 use Rattle.card.specs.declared.Card.{Card}

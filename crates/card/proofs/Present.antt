@@ -19,7 +19,7 @@ use Rattle.rules.proofs.DueMarks.{row-self}
 use Rattle.runs.proofs.Looked.{number-from, number-to, absent-is}
 use Rattle.applets.specs.ByNumber.{at, byNumber, grantOf, rollOf, selectableSet, madeTable}
 use Rattle.applets.proofs.Numbers.{by-any, present-in}
-use Rattle.downloads.proofs.Shown.{events-same}
+use Rattle.events_shown.proofs.Shown.{events-same}
 use Rattle.card.specs.declared.Card.{Card}
 use Rattle.card.specs.View.{view, Left}
 use Rattle.card.proofs.Left.{left-sound, left-bounds}

@@ -23,10 +23,10 @@ use Rattle.rules.specs.Desk.{shownSome, withProfile}
 use Rattle.rules.specs.Refusals.{line, lowest, lines, arrivalLines, refusal}
 use Rattle.rules.specs.Step.{step, outcome, changed, tablesAfter, deskAfter, arrivalDesk, answer, arrivalAnswer}
 use Rattle.rules.proofs.DueMarks.{marked-same}
-use Rattle.screen.specs.Asked.{hasShownRow}
-use Rattle.screen.proofs.BySet.{menu-shown}
-use Rattle.downloads.specs.Turns.{anyCode, isListened}
-use Rattle.downloads.proofs.Shown.{codes-shown}
+use Rattle.menu_shown.specs.Asked.{hasShownRow}
+use Rattle.menu_shown.proofs.BySet.{menu-shown}
+use Rattle.events_shown.specs.Turns.{anyCode, isListened}
+use Rattle.events_shown.proofs.Shown.{codes-shown}
 use Rattle.applets.specs.declared.Callees.{Callees}
 use Rattle.applets.specs.Rolls.{calleesOf}
 use Rattle.arrivals.specs.Whom.{calledSet}

@@ -25,8 +25,8 @@ use Rattle.rules.specs.Calls.{settled, calling}
 use Rattle.rules.specs.Desk.{marked}
 use Rattle.rules.specs.Refusals.{line, lowest, lines, refusal}
 use Rattle.rules.specs.Step.{step, tablesAfter, deskAfter, answer}
-use Rattle.screen.proofs.MenuByApplets.{settled-menu}
-use Rattle.downloads.proofs.Quiet.{settled-events}
+use Rattle.menu_shown.proofs.MenuByApplets.{settled-menu}
+use Rattle.events_shown.proofs.Quiet.{settled-events}
 use Rattle.applets.specs.declared.Callees.{Callees}
 use Rattle.applets.specs.ByNumber.{at, registeredSet}
 use Rattle.applets.specs.Rolls.{calleesOf}

@@ -21,8 +21,8 @@ use Rattle.rules.specs.Desk.{marked}
 use Rattle.rules.specs.Refusals.{refusal, lines, lowest, timerLines, absent}
 use Rattle.rules.specs.Step.{step, outcome, changed, tablesAfter, deskAfter, timerTables, answer, timerAnswer}
 use Rattle.timers.specs.Promises.{Allocates, Releases}
-use Rattle.screen.proofs.MenuByApplets.{kept-menu}
-use Rattle.downloads.proofs.Quiet.{timers-events}
+use Rattle.menu_shown.proofs.MenuByApplets.{kept-menu}
+use Rattle.events_shown.proofs.Quiet.{timers-events}
 use Rattle.applets.specs.ByNumber.{byNumber, grantOf}
 use Rattle.card.specs.declared.Card.{Card}
 use Rattle.card.specs.declared.Reply.{Reply}

@@ -52,8 +52,8 @@ impl Card {
         let marks = arrivals::other_marks(false);
         let answer = arrivals::answered(refusal, callees, marks);
         let rows = left.rows;
-        let menu = screen::has_shown_row(rows, left.selectable);
-        let events = downloads::any_listened(registered, left.selectable);
+        let menu = menu_shown::has_shown_row(rows, left.selectable);
+        let events = events_shown::any_listened(registered, left.selectable);
         let due = Due { menu, events };
         let desk = left.desk;
         let next = arrivals::begun(desk, due, bytes);

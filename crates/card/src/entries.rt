@@ -26,7 +26,7 @@ impl Card {
         if refusal == 0 {
             let rows = left.rows;
             let pair = applets::next_pair(grant, count);
-            let entered = rows::entered(rows, pair, applet, help, text);
+            let entered = menu_entries::entered(rows, pair, applet, help, text);
             identifier = entered.identifier;
             let next = entered.rows;
             let more = applets::made_with(made, applet, count + 1);
@@ -36,7 +36,7 @@ impl Card {
             left.rows = next;
             left.desk.due.menu = due;
         }
-        let answer = paper::of_number(refusal, identifier);
+        let answer = answers::of_number(refusal, identifier);
         Reply { card: left, answer }
     }
 
@@ -52,13 +52,13 @@ impl Card {
         let grant = applets::grant_at(grants, applet);
         let fits = refusals::fits(grant.text, text);
         let rows = left.rows;
-        let worded = rows::changed(rows, applet, identifier, fits, help, text);
+        let worded = menu_entries::changed(rows, applet, identifier, fits, help, text);
         let due = due_after(left.desk.session, left.desk.due.menu, shown & worded.turns);
         let next = worded.rows;
         left.rows = next;
         left.desk.due.menu = due;
         let refusal = refusals::change_refusal(there, worded.its, fits);
-        let answer = paper::of_refusal(refusal);
+        let answer = answers::of_refusal(refusal);
         Reply { card: left, answer }
     }
 
@@ -71,13 +71,13 @@ impl Card {
         let there = sets::has(left.roll.present, applet);
         let shown = sets::has(left.selectable, applet);
         let rows = left.rows;
-        let turned = rows::enabled(rows, applet, identifier, true);
+        let turned = menu_entries::enabled(rows, applet, identifier, true);
         let due = due_after(left.desk.session, left.desk.due.menu, shown & turned.turns);
         let next = turned.rows;
         left.rows = next;
         left.desk.due.menu = due;
         let refusal = refusals::row_refusal(there, turned.its);
-        let answer = paper::of_refusal(refusal);
+        let answer = answers::of_refusal(refusal);
         Reply { card: left, answer }
     }
 
@@ -90,13 +90,13 @@ impl Card {
         let there = sets::has(left.roll.present, applet);
         let shown = sets::has(left.selectable, applet);
         let rows = left.rows;
-        let turned = rows::enabled(rows, applet, identifier, false);
+        let turned = menu_entries::enabled(rows, applet, identifier, false);
         let due = due_after(left.desk.session, left.desk.due.menu, shown & turned.turns);
         let next = turned.rows;
         left.rows = next;
         left.desk.due.menu = due;
         let refusal = refusals::row_refusal(there, turned.its);
-        let answer = paper::of_refusal(refusal);
+        let answer = answers::of_refusal(refusal);
         Reply { card: left, answer }
     }
 }

@@ -14,9 +14,9 @@ ghost use Rattle.lists.specs.Wrote.{Wrote};
 ghost use Rattle.rules.specs.Events.{codes, firstDownload};
 ghost use Rattle.rules.specs.Commands.{menuOf, menuBytes, eventBytes};
 ghost use Rattle.rules.specs.Calls.{systemCommand};
-ghost use Rattle.command.specs.Fits.{Fits, shownOf};
-ghost use Rattle.downloads.specs.Listed.{codesFrom};
-ghost use Rattle.downloads.specs.Turns.{isListened};
+ghost use Rattle.commands.specs.Fits.{Fits, shownOf};
+ghost use Rattle.events_shown.specs.Listed.{codesFrom};
+ghost use Rattle.events_shown.specs.Turns.{isListened};
 ghost use Rattle.card.specs.View.{Left};
 ghost use Rattle.card.specs.Replies.{Replies, Fills};
 
@@ -39,7 +39,7 @@ fn put_menu(buf: &mut [u8], title: [u8; Desk::TITLE], len: u8, rows: Rows, selec
     ensures { λ r. ⌜ Wrote (now (buf .entry)) 0 (menuBytes (menuOf (take len title) (shownOf selectable rows))) (now (buf .exit)) r × (r < 256) ⌝ }
 {
     let n = len as usize;
-    command::write_menu(buf, &title[..n], rows, selectable)
+    commands::write_menu(buf, &title[..n], rows, selectable)
 }
 
 // Writes the list of the shown events; how many bytes it has.
@@ -47,10 +47,10 @@ fn put_events(buf: &mut [u8], registered: [u8; Kind::EVENTS], selectable: u8) ->
     requires { ⌜ 256 ≤ length (now buf) ⌝ }
     ensures { λ r. ⌜ Wrote (now (buf .entry)) 0 (eventBytes (codesFrom (isListened registered selectable) firstDownload codes)) (now (buf .exit)) r × (r < 256) ⌝ }
 {
-    let shown = downloads::shown_codes(registered, selectable);
+    let shown = events_shown::shown_codes(registered, selectable);
     let at = shown.at;
     let n = shown.count as usize;
-    command::write_events(buf, &at[..n])
+    commands::write_events(buf, &at[..n])
 }
 
 impl Card {
@@ -82,7 +82,7 @@ impl Card {
             let registered = left.registered;
             n = put_events(buf, registered, left.selectable);
         }
-        let answer = paper::of_number(refusal, n as u8);
+        let answer = answers::of_number(refusal, n as u8);
         Reply { card: left, answer }
     }
 }

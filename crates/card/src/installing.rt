@@ -23,7 +23,7 @@ impl Card {
             left.roll = next;
             left.selectable = selectable;
         }
-        let answer = paper::of_refusal(refusal);
+        let answer = answers::of_refusal(refusal);
         Reply { card: left, answer }
     }
 }

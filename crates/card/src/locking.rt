@@ -10,7 +10,7 @@ ghost use Rattle.lists.specs.Tests.{if_then_else_};
 ghost use Rattle.rules.specs.Held.{viewRows, TidyRows};
 ghost use Rattle.rules.specs.Calls.{admin, lock, unlock};
 ghost use Rattle.sets.specs.Sets.{has?};
-ghost use Rattle.screen.specs.Asked.{hasEnabledRow};
+ghost use Rattle.menu_shown.specs.Asked.{hasEnabledRow};
 ghost use Rattle.card.specs.View.{Left};
 ghost use Rattle.card.specs.Replies.{Replies};
 
@@ -45,7 +45,7 @@ pub fn menu_turns(there: bool, set: u8, applet: u8, on: bool, rows: Rows) -> boo
         if was == on {
             return false;
         }
-        return screen::has_enabled_row(rows, applet);
+        return menu_shown::has_enabled_row(rows, applet);
     }
     false
 }
@@ -65,7 +65,7 @@ impl Card {
             let rows = left.rows;
             let menu = menu_turns(there, was, applet, false, rows);
             let registered = left.registered;
-            let events = downloads::codes_turn(registered, was, is);
+            let events = events_shown::codes_turn(registered, was, is);
             let menu_due = due_after(left.desk.session, left.desk.due.menu, menu);
             let events_due = due_after(left.desk.session, left.desk.due.events, events);
             left.selectable = is;
@@ -73,7 +73,7 @@ impl Card {
             left.desk.due.events = events_due;
         }
         let refusal = absent_refusal(there);
-        let answer = paper::of_refusal(refusal);
+        let answer = answers::of_refusal(refusal);
         Reply { card: left, answer }
     }
 
@@ -91,7 +91,7 @@ impl Card {
             let rows = left.rows;
             let menu = menu_turns(there, was, applet, true, rows);
             let registered = left.registered;
-            let events = downloads::codes_turn(registered, was, is);
+            let events = events_shown::codes_turn(registered, was, is);
             let menu_due = due_after(left.desk.session, left.desk.due.menu, menu);
             let events_due = due_after(left.desk.session, left.desk.due.events, events);
             left.selectable = is;
@@ -99,7 +99,7 @@ impl Card {
             left.desk.due.events = events_due;
         }
         let refusal = absent_refusal(there);
-        let answer = paper::of_refusal(refusal);
+        let answer = answers::of_refusal(refusal);
         Reply { card: left, answer }
     }
 }

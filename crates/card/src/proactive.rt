@@ -31,7 +31,7 @@ impl Card {
         let refusal = refusals::send_refusal(command, applet, there, bank, was);
         let is = outstanding_after(refusal, was, true);
         left.desk.outstanding = is;
-        let answer = paper::of_refusal(refusal);
+        let answer = answers::of_refusal(refusal);
         Reply { card: left, answer }
     }
 
@@ -45,7 +45,7 @@ impl Card {
         let refusal = refusals::response_refusal(was);
         let is = outstanding_after(refusal, was, false);
         left.desk.outstanding = is;
-        let answer = paper::of_refusal(refusal);
+        let answer = answers::of_refusal(refusal);
         Reply { card: left, answer }
     }
 }

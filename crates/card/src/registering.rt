@@ -64,14 +64,14 @@ impl Card {
         let mut registered = left.registered;
         let was = registered[p];
         let is = set_after(refusal, place, was, applet, true);
-        let turns = downloads::events_turn(place, was, is, left.selectable);
+        let turns = events_shown::events_turn(place, was, is, left.selectable);
         let control = owner_after(refusal, place, left.control, applet, true);
         let events_due = due_after(left.desk.session, left.desk.due.events, turns);
         registered[p] = is;
         left.registered = registered;
         left.control = control;
         left.desk.due.events = events_due;
-        let answer = paper::of_refusal(refusal);
+        let answer = answers::of_refusal(refusal);
         Reply { card: left, answer }
     }
 
@@ -89,14 +89,14 @@ impl Card {
         let mut registered = left.registered;
         let was = registered[p];
         let is = set_after(refusal, place, was, applet, false);
-        let turns = downloads::events_turn(place, was, is, left.selectable);
+        let turns = events_shown::events_turn(place, was, is, left.selectable);
         let control = owner_after(refusal, place, left.control, applet, false);
         let events_due = due_after(left.desk.session, left.desk.due.events, turns);
         registered[p] = is;
         left.registered = registered;
         left.control = control;
         left.desk.due.events = events_due;
-        let answer = paper::of_refusal(refusal);
+        let answer = answers::of_refusal(refusal);
         Reply { card: left, answer }
     }
 
@@ -113,7 +113,7 @@ impl Card {
         let registered = self.registered;
         let set = registered[p];
         let says = is_listed(place, set, self.control, applet);
-        let answer = paper::of_yes_or_no(refusal, says);
+        let answer = answers::of_yes_or_no(refusal, says);
         Reply { card: self, answer }
     }
 }

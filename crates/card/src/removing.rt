@@ -26,7 +26,7 @@ impl Card {
             let made = left.made;
             let bank = left.bank;
             let menu = menu_turns(true, was, applet, false, rows);
-            let events = downloads::codes_turn(registered, was, is);
+            let events = events_shown::codes_turn(registered, was, is);
             let menu_due = due_after(left.desk.session, left.desk.due.menu, menu);
             let events_due = due_after(left.desk.session, left.desk.due.events, events);
             let next_roll = applets::roll_without(roll, applet);
@@ -46,7 +46,7 @@ impl Card {
             left.rows = next_rows;
         }
         let refusal = absent_refusal(there);
-        let answer = paper::of_refusal(refusal);
+        let answer = answers::of_refusal(refusal);
         Reply { card: left, answer }
     }
 }

@@ -9,9 +9,9 @@ use lib.ListN.{length}
 use Rattle.card.specs.declared.Card.{Card}
 use Rattle.card.specs.View.{view, stored, Left}
 use Rattle.card.proofs.Left.{left-form}
-use Rattle.pieces.specs.declared.Run.{Run}
-use Rattle.pieces.specs.Pieces.{ObeysAll}
-use Rattle.pieces.proofs.PieceLaws.{card-none}
+use Rattle.floor_records.specs.declared.Run.{Run}
+use Rattle.floor_records.specs.Pieces.{ObeysAll}
+use Rattle.floor_records.proofs.PieceLaws.{card-none}
 use Rattle.floor.specs.Turned.{Turned}
 
 pub turned-none : (card : Card) (number : ℕ) (more : Bool) → Left card → Turned card number (record { card = card; number = number; more = more })

@@ -4,7 +4,7 @@ use mathlib.Core.Path.{_≡_}
 use mathlib.Core.List.{List}
 use Rattle.card.specs.declared.Card.{Card}
 use Rattle.card.specs.View.{view, stored, Left}
-use Rattle.pieces.specs.Pieces.{recordsIn, cardAfter}
+use Rattle.floor_records.specs.Pieces.{recordsIn, cardAfter}
 use Rattle.floor.specs.declared.Stand.{Stand}
 
 -- from a card and a number to the card and the number that a piece of input, 512 records at most, leaves

@@ -1,9 +1,9 @@
 // The floor program: obeys the records on standard input and writes a line for each.
 // What its turns write is proved in `pieces`; here bytes are moved.
 use card::Card;
+use floor_records::obey_all;
 use libc::STDIN_FILENO;
 use libc::STDOUT_FILENO;
-use pieces::obey_all;
 ghost use mathlib.Core.Path.{_≡_};
 ghost use Prim.Native.Nat.{_+_, _^_, _<_};
 ghost use lib.ListN.{length};

@@ -93,7 +93,7 @@ pub fn owner_of(bank: Bank, timer: u8) -> u8
 fn refuse(bank: Bank, refusal: u8) -> BankReply
     ensures { λ r. ⌜ r ≡ record { bank = bank; answer = storedAnswer (refusedWith refusal) } ⌝ }
 {
-    let answer = paper::of_refusal(refusal);
+    let answer = answers::of_refusal(refusal);
     BankReply { bank, answer }
 }
 
@@ -114,7 +114,7 @@ pub fn allocate(bank: Bank, applet: u8, limit: u8) -> BankReply
     let at = (timer - 1) as usize;
     let mut next = bank;
     next.owner[at] = applet;
-    let answer = paper::of_number(0, timer);
+    let answer = answers::of_number(0, timer);
     BankReply { bank: next, answer }
 }
 
@@ -131,7 +131,7 @@ pub fn release(bank: Bank, applet: u8, timer: u8) -> BankReply
     let at = (timer - 1) as usize;
     let mut next = bank;
     next.owner[at] = 0;
-    let answer = paper::of_refusal(0);
+    let answer = answers::of_refusal(0);
     BankReply { bank: next, answer }
 }
 

@@ -15,9 +15,9 @@ use Rattle.card.specs.declared.Reply.{Reply}
 use Rattle.card.specs.View.{view, stored, Left}
 use Rattle.card.specs.Replies.{replied, Replies, Fills}
 use Rattle.card.proofs.Left.{left-again}
-use Rattle.lent.proofs.Pars.{Par, Xs, byte}
-use Rattle.lent.proofs.Results.{Storing, stores, leaves, asks, nought}
-use Rattle.lent.proofs.Walk.{LentCall}
+use Rattle.lent_calls.proofs.Pars.{Par, Xs, byte}
+use Rattle.lent_calls.proofs.Results.{Storing, stores, leaves, asks, nought}
+use Rattle.lent_calls.proofs.Walk.{LentCall}
 use Rattle.toolkit.specs.Does.{Does}
 use Rattle.toolkit.proofs.Lent.{card, bank, card-replies, bank-replies}
 

@@ -14,7 +14,7 @@ use Rattle.card.proofs.Card as C
 use Rattle.card.proofs.Card.Laws as C′
 use Rattle.card.proofs.Reply as R
 use Rattle.card.proofs.Reply.Laws as R′
-use Rattle.lent.proofs.Results.{Plainly, Kind}
+use Rattle.lent_calls.proofs.Results.{Plainly, Kind}
 
 abbrev pub answer : Plainly
 answer = record { type = A.the-type; laws = A′.the-laws; plains = A′.the-plain }

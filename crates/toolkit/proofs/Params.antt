@@ -14,7 +14,7 @@ use denote.Slice.{ShrSlice, sliceTy, sliceVal, shr-slice-tells, shr-slice-lawful
 use denote.Struct.Laws as LL
 use Rattle.rules.proofs.Request as R
 use Rattle.rules.proofs.Request.Laws as R′
-use Rattle.lent.proofs.Pars.{Par, passed}
+use Rattle.lent_calls.proofs.Pars.{Par, passed}
 
 abbrev pub mark : {n : ℕ} → Par n
 mark {n} = passed bool tyBool vbool bool-tells refl (λ _ 𝓤 H A W a is. bool-lawful 𝓤 H A W .typed a _ is .0) (λ _ 𝓤 H A W. bool-copy 𝓤 H A W)

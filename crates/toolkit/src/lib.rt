@@ -79,7 +79,7 @@ pub extern "C" fn toolkit_content(envelope: &[u8]) -> Spot
 pub extern "C" fn toolkit_read_menu(bytes: &[u8]) -> Menu
     ensures { λ r. ⌜ ReadsMenu (now (bytes .entry)) r ⌝ }
 {
-    reader::read_menu(bytes)
+    menu_reader::read_menu(bytes)
 }
 
 // Gives an applet the lowest free timer of a bank.

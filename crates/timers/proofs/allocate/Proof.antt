@@ -12,7 +12,7 @@ use Rattle.timers.proofs.allocate.Statement.{statement}
 use Rattle.timers.proofs.allocate.Tie as tie
 use Rattle.timers.proofs.allocate.Reads as reads
 use Rattle.timers.proofs.allocate.Lts as lts
-use Rattle.paper.proofs.of_number.Reads as of-number-reads
+use Rattle.answers.proofs.of_number.Reads as of-number-reads
 use Rattle.timers.proofs.at_limit.Reads as at-limit-reads
 use Rattle.timers.proofs.between.Reads as between-reads
 use Rattle.timers.proofs.lowest_free.Reads as lowest-free-reads

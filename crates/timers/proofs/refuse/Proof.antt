@@ -6,7 +6,7 @@ use Rattle.timers.proofs.refuse.Statement.{statement}
 use Rattle.timers.proofs.refuse.Tie as tie
 use Rattle.timers.proofs.refuse.Reads as reads
 use Rattle.timers.proofs.refuse.Lts as lts
-use Rattle.paper.proofs.of_refusal.Reads as of-refusal-reads
+use Rattle.answers.proofs.of_refusal.Reads as of-refusal-reads
 
 of-refusal-requires : tie.Need-of-refusal-requires
 of-refusal-requires c κs = search needs

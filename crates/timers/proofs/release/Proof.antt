@@ -12,7 +12,7 @@ use Rattle.timers.proofs.release.Statement.{statement}
 use Rattle.timers.proofs.release.Tie as tie
 use Rattle.timers.proofs.release.Reads as reads
 use Rattle.timers.proofs.release.Lts as lts
-use Rattle.paper.proofs.of_refusal.Reads as of-refusal-reads
+use Rattle.answers.proofs.of_refusal.Reads as of-refusal-reads
 use Rattle.timers.proofs.between.Reads as between-reads
 use Rattle.timers.proofs.owner_of.Reads as owner-of-reads
 use Rattle.timers.proofs.refuse.Reads as refuse-reads

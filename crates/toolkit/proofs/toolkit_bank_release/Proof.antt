@@ -4,7 +4,7 @@ use mathlib.Core.Path.{refl}
 use Rattle.timers.specs.Promises.{Releases}
 use Rattle.timers.proofs.release.Symbol as g
 use Rattle.timers.proofs.release.Met as g-thm
-use Rattle.lent.proofs.Walk.{opened}
+use Rattle.lent_calls.proofs.Walk.{opened}
 use Rattle.toolkit.proofs.Doors.{bank-door}
 use Rattle.toolkit.proofs.toolkit_bank_release.Key.{name as #f}
 use Rattle.toolkit.proofs.toolkit_bank_release.Statement as stated

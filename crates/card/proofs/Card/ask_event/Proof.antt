@@ -10,7 +10,7 @@ use Rattle.card.proofs.Card.ask_event.Lts as lts
 use Rattle.events.proofs.kind_of.Reads as kind-of-reads
 use Rattle.events.proofs.place_of.Reads as place-of-reads
 use Rattle.card.proofs.registering.is_listed.Reads as is-listed-reads
-use Rattle.paper.proofs.of_yes_or_no.Reads as of-yes-or-no-reads
+use Rattle.answers.proofs.of_yes_or_no.Reads as of-yes-or-no-reads
 use Rattle.refusals.proofs.refusal_for.Reads as refusal-for-reads
 use Rattle.sets.proofs.has.Reads as has-reads
 

@@ -8,11 +8,11 @@ use Rattle.card.proofs.Card.change_entry.Tie as tie
 use Rattle.card.proofs.Card.change_entry.Reads as reads
 use Rattle.card.proofs.Card.change_entry.Lts as lts
 use Rattle.applets.proofs.grant_at.Reads as grant-at-reads
-use Rattle.paper.proofs.of_refusal.Reads as of-refusal-reads
+use Rattle.answers.proofs.of_refusal.Reads as of-refusal-reads
 use Rattle.card.proofs.due_after.Reads as due-after-reads
 use Rattle.refusals.proofs.change_refusal.Reads as change-refusal-reads
 use Rattle.refusals.proofs.fits.Reads as fits-reads
-use Rattle.rows.proofs.changed.Reads as changed-reads
+use Rattle.menu_entries.proofs.changed.Reads as changed-reads
 use Rattle.sets.proofs.has.Reads as has-reads
 
 has-requires : tie.Need-has-requires

@@ -8,11 +8,11 @@ use Rattle.card.proofs.Card.clear_event.Statement.{statement}
 use Rattle.card.proofs.Card.clear_event.Tie as tie
 use Rattle.card.proofs.Card.clear_event.Reads as reads
 use Rattle.card.proofs.Card.clear_event.Lts as lts
-use Rattle.paper.proofs.of_refusal.Reads as of-refusal-reads
+use Rattle.answers.proofs.of_refusal.Reads as of-refusal-reads
 use Rattle.card.proofs.due_after.Reads as due-after-reads
 use Rattle.card.proofs.registering.owner_after.Reads as owner-after-reads
 use Rattle.card.proofs.registering.set_after.Reads as set-after-reads
-use Rattle.downloads.proofs.events_turn.Reads as events-turn-reads
+use Rattle.events_shown.proofs.events_turn.Reads as events-turn-reads
 use Rattle.events.proofs.kind_of.Reads as kind-of-reads
 use Rattle.events.proofs.place_of.Reads as place-of-reads
 use Rattle.refusals.proofs.refusal_for.Reads as refusal-for-reads

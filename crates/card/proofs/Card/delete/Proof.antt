@@ -14,11 +14,11 @@ use Rattle.card.proofs.Card.delete.Lts as lts
 use Rattle.applets.proofs.made_with.Reads as made-with-reads
 use Rattle.applets.proofs.roll_without.Reads as roll-without-reads
 use Rattle.applets.proofs.unregistered.Reads as unregistered-reads
-use Rattle.paper.proofs.of_refusal.Reads as of-refusal-reads
+use Rattle.answers.proofs.of_refusal.Reads as of-refusal-reads
 use Rattle.card.proofs.due_after.Reads as due-after-reads
 use Rattle.card.proofs.locking.absent_refusal.Reads as absent-refusal-reads
 use Rattle.card.proofs.locking.menu_turns.Reads as menu-turns-reads
-use Rattle.downloads.proofs.codes_turn.Reads as codes-turn-reads
+use Rattle.events_shown.proofs.codes_turn.Reads as codes-turn-reads
 use Rattle.menu.proofs.without.Reads as without-reads
 use Rattle.sets.proofs.has.Reads as has-reads
 use Rattle.sets.proofs.turned.Reads as turned-reads

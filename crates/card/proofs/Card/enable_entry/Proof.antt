@@ -8,10 +8,10 @@ use Rattle.card.proofs.Card.enable_entry.Statement.{statement}
 use Rattle.card.proofs.Card.enable_entry.Tie as tie
 use Rattle.card.proofs.Card.enable_entry.Reads as reads
 use Rattle.card.proofs.Card.enable_entry.Lts as lts
-use Rattle.paper.proofs.of_refusal.Reads as of-refusal-reads
+use Rattle.answers.proofs.of_refusal.Reads as of-refusal-reads
 use Rattle.card.proofs.due_after.Reads as due-after-reads
 use Rattle.refusals.proofs.row_refusal.Reads as row-refusal-reads
-use Rattle.rows.proofs.enabled.Reads as enabled-reads
+use Rattle.menu_entries.proofs.enabled.Reads as enabled-reads
 use Rattle.sets.proofs.has.Reads as has-reads
 
 has-requires : tie.Need-has-requires

@@ -7,7 +7,7 @@ use Rattle.card.proofs.Card.fresh.Statement.{statement}
 use Rattle.card.proofs.Card.fresh.Tie as tie
 use Rattle.card.proofs.Card.fresh.Reads as reads
 use Rattle.card.proofs.Card.fresh.Lts as lts
-use Rattle.paper.proofs.of_refusal.Reads as of-refusal-reads
+use Rattle.answers.proofs.of_refusal.Reads as of-refusal-reads
 use Rattle.card.proofs.fresh.kept_length.Reads as kept-length-reads
 use Rattle.card.proofs.fresh.made.Reads as made-reads
 use Rattle.refusals.proofs.title_refusal.Reads as title-refusal-reads

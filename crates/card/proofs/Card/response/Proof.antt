@@ -6,7 +6,7 @@ use Rattle.card.proofs.Card.response.Statement.{statement}
 use Rattle.card.proofs.Card.response.Tie as tie
 use Rattle.card.proofs.Card.response.Reads as reads
 use Rattle.card.proofs.Card.response.Lts as lts
-use Rattle.paper.proofs.of_refusal.Reads as of-refusal-reads
+use Rattle.answers.proofs.of_refusal.Reads as of-refusal-reads
 use Rattle.card.proofs.proactive.outstanding_after.Reads as outstanding-after-reads
 use Rattle.refusals.proofs.response_refusal.Reads as response-refusal-reads
 

@@ -7,7 +7,7 @@ use Rattle.card.proofs.Card.send.Statement.{statement}
 use Rattle.card.proofs.Card.send.Tie as tie
 use Rattle.card.proofs.Card.send.Reads as reads
 use Rattle.card.proofs.Card.send.Lts as lts
-use Rattle.paper.proofs.of_refusal.Reads as of-refusal-reads
+use Rattle.answers.proofs.of_refusal.Reads as of-refusal-reads
 use Rattle.card.proofs.proactive.outstanding_after.Reads as outstanding-after-reads
 use Rattle.envelopes.proofs.read_command.Reads as read-command-reads
 use Rattle.refusals.proofs.send_refusal.Reads as send-refusal-reads

@@ -13,7 +13,7 @@ use Rattle.card.proofs.Card.system_command.Statement.{statement}
 use Rattle.card.proofs.Card.system_command.Tie as tie
 use Rattle.card.proofs.Card.system_command.Reads as reads
 use Rattle.card.proofs.Card.system_command.Lts as lts
-use Rattle.paper.proofs.of_number.Reads as of-number-reads
+use Rattle.answers.proofs.of_number.Reads as of-number-reads
 use Rattle.card.proofs.handing.is_handed.Reads as is-handed-reads
 use Rattle.card.proofs.handing.put_events.Reads as put-events-reads
 use Rattle.card.proofs.handing.put_menu.Reads as put-menu-reads

@@ -10,12 +10,12 @@ use Rattle.card.proofs.Card.unlock.Statement.{statement}
 use Rattle.card.proofs.Card.unlock.Tie as tie
 use Rattle.card.proofs.Card.unlock.Reads as reads
 use Rattle.card.proofs.Card.unlock.Lts as lts
-use Rattle.paper.proofs.of_refusal.Reads as of-refusal-reads
+use Rattle.answers.proofs.of_refusal.Reads as of-refusal-reads
 use Rattle.card.proofs.due_after.Reads as due-after-reads
 use Rattle.card.proofs.locking.absent_refusal.Reads as absent-refusal-reads
 use Rattle.card.proofs.locking.lock_turns.Reads as lock-turns-reads
 use Rattle.card.proofs.locking.menu_turns.Reads as menu-turns-reads
-use Rattle.downloads.proofs.codes_turn.Reads as codes-turn-reads
+use Rattle.events_shown.proofs.codes_turn.Reads as codes-turn-reads
 use Rattle.sets.proofs.has.Reads as has-reads
 use Rattle.sets.proofs.turned.Reads as turned-reads
 

@@ -6,8 +6,8 @@ use Rattle.card.proofs.handing.put_events.Statement.{statement}
 use Rattle.card.proofs.handing.put_events.Tie as tie
 use Rattle.card.proofs.handing.put_events.Reads as reads
 use Rattle.card.proofs.handing.put_events.Lts as lts
-use Rattle.command.proofs.write_events.Reads as write-events-reads
-use Rattle.downloads.proofs.shown_codes.Reads as shown-codes-reads
+use Rattle.commands.proofs.write_events.Reads as write-events-reads
+use Rattle.events_shown.proofs.shown_codes.Reads as shown-codes-reads
 
 shown-codes-requires : tie.Need-shown-codes-requires
 shown-codes-requires c κs = search needs

@@ -8,7 +8,7 @@ use Rattle.card.proofs.handing.put_menu.Statement.{statement}
 use Rattle.card.proofs.handing.put_menu.Tie as tie
 use Rattle.card.proofs.handing.put_menu.Reads as reads
 use Rattle.card.proofs.handing.put_menu.Lts as lts
-use Rattle.command.proofs.write_menu.Reads as write-menu-reads
+use Rattle.commands.proofs.write_menu.Reads as write-menu-reads
 
 array-share-prefix-title : tie.Need-array-share-prefix-title
 array-share-prefix-title c = search needs

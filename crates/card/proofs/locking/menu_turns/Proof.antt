@@ -7,7 +7,7 @@ use Rattle.card.proofs.locking.menu_turns.Tie as tie
 use Rattle.card.proofs.locking.menu_turns.Reads as reads
 use Rattle.card.proofs.locking.menu_turns.Lts as lts
 use Rattle.sets.proofs.has.Reads as has-reads
-use Rattle.screen.proofs.has_enabled_row.Reads as has-enabled-row-reads
+use Rattle.menu_shown.proofs.has_enabled_row.Reads as has-enabled-row-reads
 
 has-requires : tie.Need-has-requires
 has-requires c κs = search needs

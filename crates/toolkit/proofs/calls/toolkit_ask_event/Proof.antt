@@ -6,8 +6,8 @@ use Rattle.rules.specs.Calls.{event, askEvent}
 use Rattle.card.proofs.Asking.{ask-stays}
 use Rattle.card.proofs.Card.ask_event.Symbol as g
 use Rattle.card.proofs.Card.ask_event.Met as g-thm
-use Rattle.lent.proofs.Pars.{byte}
-use Rattle.lent.proofs.Walk.{LentCall, opened}
+use Rattle.lent_calls.proofs.Pars.{byte}
+use Rattle.lent_calls.proofs.Walk.{LentCall, opened}
 use Rattle.toolkit.proofs.Params.{value}
 use Rattle.toolkit.proofs.Doors.{window}
 use Rattle.toolkit.proofs.calls.toolkit_ask_event.Key.{name as #f}

@@ -6,8 +6,8 @@ use denote.Ref.{now}
 use Rattle.rules.specs.Calls.{entry, changeEntry}
 use Rattle.card.proofs.Card.change_entry.Symbol as g
 use Rattle.card.proofs.Card.change_entry.Met as g-thm
-use Rattle.lent.proofs.Pars.{byte}
-use Rattle.lent.proofs.Walk.{LentCall, opened}
+use Rattle.lent_calls.proofs.Pars.{byte}
+use Rattle.lent_calls.proofs.Walk.{LentCall, opened}
 use Rattle.toolkit.proofs.Params.{mark, bytes}
 use Rattle.toolkit.proofs.Doors.{door}
 use Rattle.toolkit.proofs.calls.toolkit_change_entry.Key.{name as #f}

@@ -5,8 +5,8 @@ use mathlib.Core.List.{[], _∷_}
 use Rattle.rules.specs.Calls.{event, clearEvent}
 use Rattle.card.proofs.Card.clear_event.Symbol as g
 use Rattle.card.proofs.Card.clear_event.Met as g-thm
-use Rattle.lent.proofs.Pars.{byte}
-use Rattle.lent.proofs.Walk.{LentCall, opened}
+use Rattle.lent_calls.proofs.Pars.{byte}
+use Rattle.lent_calls.proofs.Walk.{LentCall, opened}
 use Rattle.toolkit.proofs.Params.{value}
 use Rattle.toolkit.proofs.Doors.{door}
 use Rattle.toolkit.proofs.calls.toolkit_clear_event.Key.{name as #f}

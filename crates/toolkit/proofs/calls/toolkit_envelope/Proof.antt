@@ -7,7 +7,7 @@ use Rattle.rules.specs.Calls.{arrival, envelope}
 use Rattle.card.proofs.Envelope.{envelope-stays}
 use Rattle.card.proofs.Card.envelope.Symbol as g
 use Rattle.card.proofs.Card.envelope.Met as g-thm
-use Rattle.lent.proofs.Walk.{LentCall, opened}
+use Rattle.lent_calls.proofs.Walk.{LentCall, opened}
 use Rattle.toolkit.proofs.Params.{bytes}
 use Rattle.toolkit.proofs.Doors.{window}
 use Rattle.toolkit.proofs.calls.toolkit_envelope.Key.{name as #f}

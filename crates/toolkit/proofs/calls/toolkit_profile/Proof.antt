@@ -6,7 +6,7 @@ use denote.Ref.{now}
 use Rattle.rules.specs.Calls.{arrival, profile}
 use Rattle.card.proofs.Card.profile.Symbol as g
 use Rattle.card.proofs.Card.profile.Met as g-thm
-use Rattle.lent.proofs.Walk.{LentCall, opened}
+use Rattle.lent_calls.proofs.Walk.{LentCall, opened}
 use Rattle.toolkit.proofs.Params.{bytes}
 use Rattle.toolkit.proofs.Doors.{door}
 use Rattle.toolkit.proofs.calls.toolkit_profile.Key.{name as #f}

@@ -5,8 +5,8 @@ use mathlib.Core.List.{[], _∷_}
 use Rattle.rules.specs.Calls.{timer, release}
 use Rattle.card.proofs.Card.release.Symbol as g
 use Rattle.card.proofs.Card.release.Met as g-thm
-use Rattle.lent.proofs.Pars.{byte}
-use Rattle.lent.proofs.Walk.{LentCall, opened}
+use Rattle.lent_calls.proofs.Pars.{byte}
+use Rattle.lent_calls.proofs.Walk.{LentCall, opened}
 use Rattle.toolkit.proofs.Doors.{door}
 use Rattle.toolkit.proofs.calls.toolkit_release_timer.Key.{name as #f}
 use Rattle.toolkit.proofs.calls.toolkit_release_timer.Statement as stated

@@ -5,7 +5,7 @@ use mathlib.Core.List.{[]}
 use Rattle.rules.specs.Calls.{proactive, response}
 use Rattle.card.proofs.Card.response.Symbol as g
 use Rattle.card.proofs.Card.response.Met as g-thm
-use Rattle.lent.proofs.Walk.{LentCall, opened}
+use Rattle.lent_calls.proofs.Walk.{LentCall, opened}
 use Rattle.toolkit.proofs.Doors.{door}
 use Rattle.toolkit.proofs.calls.toolkit_response.Key.{name as #f}
 use Rattle.toolkit.proofs.calls.toolkit_response.Statement as stated

@@ -6,8 +6,8 @@ use denote.Ref.{now}
 use Rattle.rules.specs.Calls.{proactive, send}
 use Rattle.card.proofs.Card.send.Symbol as g
 use Rattle.card.proofs.Card.send.Met as g-thm
-use Rattle.lent.proofs.Pars.{byte}
-use Rattle.lent.proofs.Walk.{LentCall, opened}
+use Rattle.lent_calls.proofs.Pars.{byte}
+use Rattle.lent_calls.proofs.Walk.{LentCall, opened}
 use Rattle.toolkit.proofs.Params.{bytes}
 use Rattle.toolkit.proofs.Doors.{door}
 use Rattle.toolkit.proofs.calls.toolkit_send.Key.{name as #f}

@@ -54,7 +54,7 @@ use Rattle.card.proofs.Card.system_command.Symbol as g-def
 use Rattle.card.proofs.Card.system_command.Symbol.{name as #g}
 use Rattle.card.proofs.Card.system_command.Met as g-thm
 use Rattle.toolkit.specs.Does.{Does}
-use Rattle.lent.proofs.Results.{valOf, valsOf, stores, stands, answers-back}
+use Rattle.lent_calls.proofs.Results.{valOf, valsOf, stores, stands, answers-back}
 use Rattle.toolkit.proofs.Lent.{card, answer, card-replies}
 use Rattle.toolkit.proofs.Doors.{as-done}
 use Rattle.toolkit.proofs.calls.toolkit_system_command.Key.{name as #f}

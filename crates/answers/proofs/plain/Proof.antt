@@ -1,0 +1,14 @@
+-- `answers::plain` meets its contract.
+-- Assumes nothing.
+use mathlib.Core.Path.{refl}
+use Rattle.rules.specs.Held.{storedAnswer}
+use Rattle.lists.specs.Lists.{padded}
+use Rattle.answers.proofs.plain.Statement.{statement}
+use Rattle.answers.proofs.plain.Tie as tie
+
+returns : tie.Need-returns
+unfolding storedAnswer padded
+returns c = refl
+
+pub plain-spec : {M : Type 1} → statement M
+plain-spec = tie.close (tie.spec returns)

@@ -1,0 +1,81 @@
+-- Calls that leave the shown events: an install, a new entry, a settled moment, call control, rows and timers.
+-- Assumes nothing.
+use Prim.Native.Nat.{ℕ, zero, suc}
+use native.Mathlib.Omega.{arith}
+use mathlib.Core.Path.{_≡_, refl, sym, ap, _∙_}
+use mathlib.Core.Bool.{Bool, true, false, _||_}
+use mathlib.Core.List.{List, [], _∷_, _++_, map}
+use lib.ListN.{getD, replicate}
+use lib.Seq.{getD-set-other}
+use Rattle.lists.specs.Tests.{if_then_else_}
+use Rattle.lists.specs.Lists.{some?, change}
+use Rattle.lists.proofs.Changes.{some-change}
+use Rattle.rules.specs.declared.Request.{Request}
+use Rattle.rules.specs.Holds.{Applet, Row, Tables, withApplets, withRows, withControl, withTimers, withEvent, withOneMore}
+use Rattle.rules.specs.Events.{handlerAvailable}
+use Rattle.rules.specs.Applets.{hasNumber, newcomer, registered, calledWhenSettled, usedUp}
+use Rattle.rules.specs.Commands.{listened}
+use Rattle.rules.specs.Desk.{eventsChange}
+use Rattle.events_shown.specs.Turns.{listens}
+use Rattle.events_shown.proofs.Shown.{events-same, listened-is}
+
+-- INSTALL: one more applet, registered for nothing, that no row names
+some-snoc : {A : Type 0} (p : A → Bool) (l : List A) (x : A) → p x ≡ false → some? p (l ++ x ∷ []) ≡ some? p l
+unfolding some?
+some-snoc p [] x h = rw h refl
+some-snoc p (y ∷ l) x h = ap (λ (b : Bool). p y || b) (some-snoc p l x h)
+
+getD-blank : (k e : ℕ) → getD (replicate k false) e false ≡ false
+getD-blank zero e = refl
+getD-blank (suc k) zero = refl
+getD-blank (suc k) (suc e) = getD-blank k e
+
+module _ (t : Tables) (n : ℕ) (r : Request) where
+  abbrev grown : Tables
+  grown = withApplets t (t .applets ++ newcomer n r ∷ [])
+
+  deaf : (e : ℕ) → listens e (newcomer n r) ≡ false
+  unfolding newcomer
+  deaf e = getD-blank 20 e
+
+  pub install-events : eventsChange t grown ≡ false
+  install-events = events-same t grown (λ e h k. listened-is grown e h ∙ some-snoc _ (t .applets) (newcomer n r) (deaf e) ∙ sym (listened-is t e h))
+
+-- SETTLED
+some-map : {A : Type 0} (p : A → Bool) (f : A → A) (l : List A) → ((x : A) → p (f x) ≡ p x) → some? p (map f l) ≡ some? p l
+unfolding some?
+some-map p f [] h = refl
+some-map p f (x ∷ l) h = rw (h x, some-map p f l h) refl
+
+module _ (t : Tables) where
+  abbrev spent : Tables
+  spent = withApplets t (map usedUp (t .applets))
+
+  used-hears : (e : ℕ) (x : Applet) → (e ≡ handlerAvailable → ⊥) → listens e (usedUp x) ≡ listens e x
+  unfolding usedUp
+  used-hears e x h = go (calledWhenSettled x)
+    where
+      go : (b : Bool) → listens e (if b then withEvent handlerAvailable false x else x) ≡ listens e x
+      go true = rw (getD-set-other (x .events) handlerAvailable e false false h) refl
+      go false = refl
+
+  pub settled-events : eventsChange t spent ≡ false
+  settled-events =
+      events-same t spent
+      (λ e h k. listened-is spent e h ∙ some-map _ usedUp (t .applets) (λ x. used-hears e x (λ z. absurd (omega arith))) ∙ sym (listened-is t e h))
+
+-- CALL CONTROL, ROWS AND TIMERS are no matter of the shown events
+pub control-events : (t : Tables) (o : ℕ) → eventsChange t (withControl t o) ≡ false
+control-events t o = events-same t (withControl t o) (λ e h k. listened-is (withControl t o) e h ∙ sym (listened-is t e h))
+
+pub rows-events : (t : Tables) (rows : List Row) → eventsChange t (withRows t rows) ≡ false
+rows-events t rows = events-same t (withRows t rows) (λ e h k. unfold listened registered in refl)
+
+pub timers-events : (t : Tables) (timers : List ℕ) → eventsChange t (withTimers t timers) ≡ false
+timers-events t timers = events-same t (withTimers t timers) (λ e h k. unfold listened registered in refl)
+
+-- A NEW ENTRY changes of its applet only how many entries it has made
+pub entry-events : (t : Tables) (n : ℕ) (rows : List Row) → eventsChange t (withApplets (withRows t rows) (change (hasNumber n) withOneMore (t .applets))) ≡ false
+entry-events t n rows =
+    events-same t (withApplets (withRows t rows) (change (hasNumber n) withOneMore (t .applets)))
+    (λ e h k. unfold listened registered in some-change _ (hasNumber n) withOneMore (λ x. refl) (t .applets))

@@ -1,0 +1,28 @@
+-- `floor_orders::blanks::four` meets its contract.
+-- Assumes nothing.
+use native.Mathlib.Omega.{arith}
+use borrow.Author.Needs.{needs}
+use Rattle.floor_orders.proofs.WordLaws.{four-bytes}
+use Rattle.floor_orders.proofs.blanks.four.Statement.{statement}
+use Rattle.floor_orders.proofs.blanks.four.Tie as tie
+
+two-requires : tie.Need-two-requires
+two-requires c κs = search needs
+
+add-two : tie.Need-add-two
+add-two c = search needs
+
+two-requires-2 : tie.Need-two-requires-2
+two-requires-2 c κs = search needs
+
+mul-result : tie.Need-mul-result
+mul-result c = search needs
+
+add-result : tie.Need-add-result
+add-result c = search needs
+
+returns : tie.Need-returns
+returns c = (four-bytes _ _ _ _ (c .before .before .before .pre) (c .before .two .ensures .0) (c .two2 .ensures .0), omega (arith, c .before .two .ensures .1, c .two2 .ensures .1))
+
+pub four-spec : {M : Type 1} → statement M
+four-spec = tie.close (tie.spec two-requires add-two two-requires-2 mul-result add-result returns)

@@ -1,0 +1,14 @@
+-- `is_asked` meets its contract: the test of a row by its identifier, then by its marks.
+-- Assumes nothing.
+use borrow.Author.Tests.{eq-eqb, ne-eqb}
+use Rattle.menu_shown.proofs.is_asked.Statement.{statement}
+use Rattle.menu_shown.proofs.is_asked.Tie as tie
+
+returns : tie.Need-returns
+returns c = simp (eq-eqb _ _ (c .before .before .if1 .taken))
+
+returns-2 : tie.Need-returns-2
+returns-2 c = simp (ne-eqb _ _ (c .if1 .left))
+
+pub is-asked-spec : {M : Type 1} → statement M
+is-asked-spec = tie.close (tie.spec returns returns-2)

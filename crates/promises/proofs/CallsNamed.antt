@@ -1,0 +1,202 @@
+-- A call more after any calls, on the card in its one form: judged, answered, ordered and shown as specs/Promised.antt says. Assumes nothing.
+use Prim.Native.Nat.{ℕ, _-_, _≤_, _<_}
+use native.Mathlib.Omega.{arith}
+use mathlib.Core.Path.{_≡_, refl, sym, ap, ap₂, subst, _∙_}
+use mathlib.Core.Logic.{_⊎_, inl, inr}
+use mathlib.Core.Bool.{Bool, false}
+use mathlib.Core.List.{List, [], _∷_, _++_}
+use lib.ListN.{length, take, drop, getD}
+use Rattle.lists.specs.Tests.{if_then_else_}
+use Rattle.lists.specs.Lists.{keep, times}
+use Rattle.sets.specs.Sets.{has?}
+use Rattle.rules.specs.Holds.{Row, Model, document}
+use Rattle.rules.specs.Held.{viewRows, storedDesk}
+use Rattle.rules.specs.Events.{handlerAvailable}
+use Rattle.rules.specs.Applets.{applet}
+use Rattle.rules.specs.Envelopes.{envelopeOf}
+use Rattle.rules.specs.Rows.{nextPair}
+use Rattle.rules.specs.Commands.{Menu, menuOf, menuBytes}
+use Rattle.rules.specs.Arrivals.{Arrival, envelopeMarks, otherMarks}
+use Rattle.rules.specs.Calls.{Call, Answer, Outcome, entry, settled, systemCommand, newEntry}
+use Rattle.rules.specs.Desk.{dueCommand, withProfile}
+use Rattle.rules.specs.Step.{arrivalAnswer, arrivalDesk, answer, written, front, outcome, step}
+use Rattle.rules.specs.Beside.{ReadOutcome, menuReader}
+use Rattle.rules.specs.Runs.{cardAfter}
+use Rattle.rules.proofs.OnRefusal.{refused}
+use Rattle.rules.proofs.DueMarks.{first-due}
+use Rattle.card.specs.declared.Card.{Card}
+use Rattle.card.specs.View.{stored}
+use Rattle.card.proofs.Left.{after-seen}
+use Rattle.history.specs.Named.{isSelectable, hasOneShot}
+use Rattle.history.specs.Called.{isNamed, isDue, arrivalIn}
+use Rattle.history.specs.Handed.{Seen, seen, seenOf, handed, titleOf, isShown}
+use Rattle.history.specs.OnScreen.{command, ScreenRight}
+use Rattle.history.proofs.Answered.{passes, answers, refuses}
+use Rattle.history.proofs.OneShot.{Each, waits, only-settled-arrives-so}
+use Rattle.history.proofs.Promises as runs
+use Rattle.history.proofs.DeskNamed.{title-is-the-one-given, hands-out-nothing}
+use Rattle.history.proofs.HandOuts.{handed-due}
+use Rattle.history.proofs.Screen.{screen-is-right}
+use Rattle.history.proofs.MenuOrder.{AlwaysInUse, rows-keep-their-order, new-row-at-its-place, new-row-last-for-0, new-row-last-behind-all}
+use Rattle.promises.specs.Watched.{calledBy}
+use Rattle.promises.specs.Promised.{Judged, Handlers, Answers, positionOf, newRow, Orders, HandsOut, Shows}
+use Rattle.promises.proofs.SameRuns.{next-says}
+use Rattle.promises.proofs.DemandOne.{answer-is-the-lowest}
+use Rattle.promises.proofs.TablesNamed.{m, h, c, rows-are, shown-is, holds}
+
+-- what the menu reader answers with a menu
+abbrev readAs : Menu → ReadOutcome
+readAs x = record { refusal = 0; menu = x }
+
+-- an accepted hand-out writes at the front
+front-so : (v : Model) (buffer : List ℕ) → step v (systemCommand buffer) .answer .refusal ≡ 0 → step v (systemCommand buffer) .buffer ≡ front (dueCommand (v .tables) (v .desk)) buffer
+unfolding step outcome written
+front-so v buffer ok = ap (λ (n : ℕ). outcome n v (systemCommand buffer) .buffer) (passes v (systemCommand buffer) ok)
+
+-- a call more after these, as it is seen
+module _ (title : List ℕ) (calls : List Call) (x : Call) where
+  abbrev s : Seen
+  s = seen x (step (m title calls) x)
+
+  abbrev k : Card
+  k = stored (step (m title calls) x .after)
+
+  -- DEMAND 1
+  pub judged : Judged (c title calls) s k
+  unfolding cardAfter
+  judged =
+      record {
+        holds = rw (after-seen title calls) (answer-is-the-lowest (m title calls) x .holds);
+        lowest = rw (after-seen title calls) (answer-is-the-lowest (m title calls) x .least);
+        refused = λ n e.
+            let o = refused (m title calls) x n (refuses (m title calls) x n e) in
+            (ap stored (runs.refused-call-leaves-the-card title calls x n e), ap (λ (o : Outcome). o .buffer) o, ap (λ (o : Outcome). o .answer) o);
+        no-second = λ t j n e. (
+          next-says n .seen ∙ ap₂ (λ (v : Model) (y : Call). seen y (step v y)) (after-seen title calls) e,
+          next-says n .card ∙ ap₂ (λ (v : Model) (y : Call). stored (step v y .after)) (after-seen title calls) e,
+        );
+      }
+
+  -- what is told of another name of the call
+  named-so : {y : Call} → x ≡ y → step (m title calls) x .answer .refusal ≡ 0 → step (m title calls) y .answer .refusal ≡ 0
+  named-so e ok = ap (λ (y : Call). step (m title calls) y .answer .refusal) (sym e) ∙ ok
+
+  heard : step (m title calls) x .answer .refusal ≡ 0 → (n : ℕ) (a : Arrival) → arrivalIn x ≡ a → times n (calledBy s) ≡ (if isDue (h title calls) a n then 1 else 0)
+  heard ok n a e = runs.event-names-each-once-in-order title calls x ok .once n ∙ ap (λ (a : Arrival). if isDue (h title calls) a n then 1 else 0) e
+
+  -- the one-shot by the sets, now and after the call
+  now : (n : ℕ) → has? (getD (c title calls .registered) handlerAvailable 0) n ≡ hasOneShot n (h title calls)
+  unfolding hasOneShot
+  now n = holds title calls .registered n handlerAvailable (omega arith) refl
+
+  then-on : (n : ℕ) → has? (getD (k .registered) handlerAvailable 0) n ≡ hasOneShot n (h title (x ∷ calls))
+  unfolding hasOneShot cardAfter
+  then-on n = holds title (x ∷ calls) .registered n handlerAvailable (omega arith) refl
+
+  used : (n : ℕ) → x ≡ settled → step (m title calls) x .answer .refusal ≡ 0
+      → hasOneShot n (h title (x ∷ calls)) ≡ (if isSelectable n (h title calls) then false else hasOneShot n (h title calls))
+  used n e ok =
+      ap (λ (y : Call). hasOneShot n (h title (y ∷ calls))) e ∙ runs.one-shot-is-used-up title calls n (named-so e ok)
+
+  -- DEMAND 3, the calls
+  pub answers-so : Answers (h title calls) (c title calls) s k
+  unfolding isDue isNamed arrivalIn hasOneShot Each
+  answers-so =
+      record {
+        called = runs.event-names-each-once-in-order title calls x;
+        one-list = runs.no-second-list title calls x;
+        as-many = runs.as-many-as-are-due title calls x;
+        choice-counts = λ i n ok e. heard ok n _ e;
+        help-counts = λ i n ok e. heard ok n _ e;
+        expiry-counts = λ t n ok e. heard ok n _ e;
+        only-settled = only-settled-arrives-so x;
+        fires = λ n ok e. heard ok n _ (ap arrivalIn e);
+        used-up = λ n ok e. then-on n ∙ used n e ok ∙ sym (ap₂ (λ (a b : Bool). if a then false else b) (holds title calls .selectable n) (now n));
+        lasts = λ n f has.
+            then-on n
+            ∙ waits title n (x ∷ []) calls ((λ ok. (f ok .0, f ok .1, λ e. sym (holds title calls .selectable n) ∙ f ok .2 e)), tt) (sym (now n) ∙ has);
+        tells = λ n e v ok q kind.
+            ap (λ (y : Call). step (m title calls) y .answer .says) q ∙ runs.asking-tells-what-is-named title calls n e v kind (named-so q ok);
+      }
+
+  -- DEMAND 2, the handlers
+  pub handlers : Handlers (h title calls) s
+  unfolding answer arrivalAnswer arrivalDesk withProfile
+  handlers =
+      record {
+        envelope-marks = λ bytes ok e. marks-are ok e ∙ ap (λ (b : Bool). envelopeMarks b (envelopeOf bytes)) (runs.outstanding-is-named title calls);
+        profile-marks = λ bytes ok e. marks-are ok e;
+        settled-marks = λ ok e. marks-are ok e ∙ ap otherMarks (runs.outstanding-is-named title calls);
+      }
+    where
+      marks-are : {y : Call} → step (m title calls) x .answer .refusal ≡ 0 → x ≡ y → s .entry .answer .marks ≡ answer (m title calls) y .marks
+      marks-are ok e =
+          ap (λ (a : Answer). a .marks) (answers (m title calls) x (passes (m title calls) x ok)) ∙ ap (λ (y : Call). answer (m title calls) y .marks) e
+
+  -- DEMAND 2, the menu order
+  pub orders : Orders (positionOf (c title calls)) (viewRows (c title calls .rows)) s (viewRows (k .rows))
+  unfolding cardAfter AlwaysInUse
+  orders =
+      subst (λ (v : Model). Orders (λ n. nextPair (applet (v .tables) n) .position) (viewRows (c title calls .rows)) s (viewRows (k .rows))) (sym (after-seen title calls))
+      (rw (rows-are title calls, rows-are title (x ∷ calls)) record {
+        at-its-place = λ n help text e.
+            subst (λ (y : Call). Accepts y → 1 ≤ position n → position n ≤ length before → rowsAfter y ≡ take (position n - 1) before ++ newRow (seenBy y) n help text ∷ drop (position n - 1) before)
+            (sym e) (new-row-at-its-place (m title calls) n help text);
+        last = λ n help text e. subst (λ (y : Call). Accepts y → Last n → rowsAfter y ≡ before ++ newRow (seenBy y) n help text ∷ []) (sym e) (last-one n help text);
+        kept = λ p a b. rows-keep-their-order p title (x ∷ []) calls (a, b);
+      })
+    where
+      before : List Row
+      before = m title calls .tables .rows
+
+      position : ℕ → ℕ
+      position n = nextPair (applet (m title calls .tables) n) .position
+
+      seenBy : Call → Seen
+      seenBy y = seen y (step (m title calls) y)
+
+      Accepts : Call → Type 0
+      Accepts y = step (m title calls) y .answer .refusal ≡ 0
+
+      rowsAfter : Call → List Row
+      rowsAfter y = step (m title calls) y .after .tables .rows
+
+      Last : ℕ → Type 0
+      Last n = (position n ≡ 0) ⊎ (length before < position n)
+
+      last-one : (n : ℕ) (help : Bool) (text : List ℕ) → Accepts (entry (newEntry n help text)) → Last n
+          → rowsAfter (entry (newEntry n help text)) ≡ before ++ newRow (seenBy (entry (newEntry n help text))) n help text ∷ []
+      last-one n help text ok (inl z) = new-row-last-for-0 (m title calls) n help text ok z
+      last-one n help text ok (inr g) = new-row-last-behind-all (m title calls) n help text ok g
+
+  -- THE SCREEN, by a call
+  pub shows : Shows title (h title calls) (c title calls) s k
+  unfolding stored storedDesk
+  shows =
+      record {
+        hands-out = λ buffer ok e. hand-out buffer e (named-so e ok);
+        accepts = λ buffer e idle room.
+            ap (λ (y : Call). step (m title calls) y .answer .refusal) e ∙ right .accepts buffer (sym (runs.outstanding-is-named title calls) ∙ idle) room;
+        sent = λ n bytes ok e. right .sent n bytes (named-so e ok);
+      }
+    where
+      right : ScreenRight title (seenOf title calls) (m title calls) (h title calls)
+      right = screen-is-right title calls
+
+      hand-out : (buffer : List ℕ) → x ≡ systemCommand buffer → step (m title calls) (systemCommand buffer) .answer .refusal ≡ 0
+          → HandsOut title (h title calls) (c title calls) s k buffer
+      hand-out buffer e ok =
+          let does = right .hand-out buffer ok in
+          let due = handed-due (m title calls) buffer (passes (m title calls) (systemCommand buffer) ok) in
+          let by : handed s ≡ command (m title calls) buffer = ap (λ (y : Call). handed (seen y (step (m title calls) y))) e in
+          record {
+            menu-first = λ q.
+                by ∙ due ∙ first-due (m title calls .tables) (m title calls .desk) ∙ rw q refl
+                ∙ ap₂ (λ (t : List ℕ) (r : List Row). menuBytes (menuOf t r)) (title-is-the-one-given title calls) (shown-is title calls);
+            read-back = λ q. ap (menuReader document) by ∙ does .menu-first q ∙ sym (ap (λ (r : List Row). readAs (menuOf (titleOf title) (keep (isShown (h title calls)) r))) (rows-are title calls));
+            then-events = λ p q. by ∙ does .then-events p q;
+            else-nothing = λ p q.
+                (by ∙ does .else-nothing p q, ap (λ (y : Call). stored (step (m title calls) y .after)) e ∙ ap (λ (o : Outcome). stored (o .after)) (hands-out-nothing (m title calls) buffer ok p q));
+            at-the-front = ap (λ (y : Call). step (m title calls) y .buffer) e ∙ front-so (m title calls) buffer ok ∙ ap (λ (b : List ℕ). front b buffer) (sym (by ∙ due));
+            clears = ap (λ (y : Call). step (m title calls) y .after .desk .due) e ∙ does .clears;
+          }

@@ -1,0 +1,73 @@
+-- THE SEQUENCES ARE THOSE OF THE PUBLIC FUNCTIONS' OWN RESULTS. A card that they have left holds the model after these calls, and the
+-- calls with their answers and buffers are those that the promises over all runs speak of. Assumes nothing.
+use Prim.Native.Nat.{ℕ}
+use mathlib.Core.Path.{_≡_, refl, sym, ap, ap₂, _∙_}
+use mathlib.Core.List.{List, [], _∷_}
+use Rattle.lists.proofs.Padded.{take-padded}
+use Rattle.rules.specs.Holds.{Model, document}
+use Rattle.rules.specs.Calls.{Call, Answer}
+use Rattle.rules.specs.Step.{step}
+use Rattle.rules.specs.Held.{storedAnswer}
+use Rattle.rules.specs.Runs.{cardAfter}
+use Rattle.card.specs.declared.Card.{Card}
+use Rattle.card.specs.declared.Reply.{Reply}
+use Rattle.card.specs.View.{view, stored, Left}
+use Rattle.card.specs.Replies.{replied, freshReply}
+use Rattle.card.proofs.Left.{after-seen}
+use Rattle.history.specs.Histories.{did, History, accepted}
+use Rattle.history.specs.Runs.{historyOf}
+use Rattle.history.specs.Handed.{Seen, seen as seenAs, seenOf}
+use Rattle.promises.specs.Watched.{leaving, entriesOf, callsOf, onPaper, Next, Watched, call, made, more}
+
+-- the struct of an answer holds it
+paper-back : (a : Answer) → onPaper (storedAnswer a) ≡ a
+unfolding onPaper storedAnswer
+paper-back a = ap (λ (l : List ℕ). record { refusal = a .refusal; number = a .number; says = a .says; called = l; marks = a .marks }) (take-padded 8 0 (a .called))
+
+-- what a call was seen as, and the card after it, are what the rules say
+pub record Says (c : Card) (s : Seen) (k : Card) : Type 0 where
+  pub card : k ≡ stored (step (view c) (s .entry .call) .after)
+  pub seen : s ≡ seenAs (s .entry .call) (step (view c) (s .entry .call))
+
+says : {c k : Card} {x : Call} {a : Answer} {b : List ℕ} → k ≡ stored (step (view c) x .after) → a ≡ step (view c) x .answer → b ≡ step (view c) x .buffer
+    → Says c (leaving (did x a) b) k
+says {x = x} e p q = record { card = e; seen = ap₂ (λ (a : Answer) (b : List ℕ). leaving (did x a) b) p q }
+
+pub next-says : {c : Card} {s : Seen} {k : Card} → Next c s k → Says c s k
+unfolding replied
+next-says {c} (call x r buffer e q) =
+    says (ap (λ (r : Reply). r .card) e) (ap (λ (r : Reply). onPaper (r .answer)) e ∙ paper-back (step (view c) x .answer)) q
+
+-- the card holds the model after these calls, and they are seen as the rules say
+pub record Same (title : List ℕ) (l : List Seen) (c : Card) : Type 0 where
+  pub holds : c ≡ stored (cardAfter document title (callsOf l))
+  pub seen : l ≡ seenOf title (callsOf l)
+
+pub same-view : {title : List ℕ} {l : List Seen} {c : Card} → Same title l c → view c ≡ cardAfter document title (callsOf l)
+same-view {title} {l} same = ap view (same .holds) ∙ after-seen title (callsOf l)
+
+pub watched-same : {title : List ℕ} {l : List Seen} {c : Card} → Watched title l c → Same title l c
+unfolding freshReply cardAfter seenOf
+watched-same (made r e) = record { holds = ap (λ (r : Reply). r .card) e; seen = refl }
+watched-same {title} (more {l = l} {c = c} {s = s} n w) =
+    let same = watched-same w in
+    let said = next-says n in
+    let is : view c ≡ cardAfter document title (callsOf l) = same-view same in
+    record {
+      holds = said .card ∙ ap (λ (m : Model). stored (step m (s .entry .call) .after)) is;
+      seen = ap₂ (λ (t : Seen) (k : List Seen). t ∷ k) (said .seen ∙ ap (λ (m : Model). seenAs (s .entry .call) (step m (s .entry .call))) is) (same .seen);
+    }
+
+-- what was seen of a run has the run's history
+pub entries-seen : (title : List ℕ) (calls : List Call) → entriesOf (seenOf title calls) ≡ historyOf title calls
+unfolding seenOf historyOf
+entries-seen title [] = refl
+entries-seen title (c ∷ calls) = ap (λ (h : History). did c (step (cardAfter document title calls) c .answer) ∷ h) (entries-seen title calls)
+
+-- EVERY CARD THAT THE PUBLIC FUNCTIONS HAVE LEFT: the assumption of the next call's contract holds of it, and the history of the accepted
+-- calls is the one that the promises over all runs speak of.
+pub watched-left : {title : List ℕ} {l : List Seen} {c : Card} → Watched title l c → Left c
+watched-left {title} {l} w = record { title = title; calls = callsOf l; is = watched-same w .holds }
+
+pub past-is : {title : List ℕ} {l : List Seen} {c : Card} → Watched title l c → accepted (historyOf title (callsOf l)) ≡ accepted (entriesOf l)
+past-is {title} {l} w = ap accepted (sym (entries-seen title (callsOf l)) ∙ ap entriesOf (sym (watched-same w .seen)))

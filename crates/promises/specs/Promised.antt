@@ -1,0 +1,199 @@
+-- WHAT IS PROMISED of every card that the public functions have left, in the order of the demands (document 00): of the card's struct c,
+-- of the calls that were seen on it, the newest first, and of any call more. What "the history" names is said in crates/history/specs, by
+-- looking back over the accepted calls and their answers alone.
+use Prim.Native.Nat.{ℕ, suc, _-_, _≤_, _<_}
+use mathlib.Core.Path.{_≡_}
+use mathlib.Core.Logic.{_⊎_}
+use mathlib.Core.Bool.{Bool, true, false, _&&_}
+use mathlib.Core.List.{List, [], _∷_, _++_, map}
+use lib.ListN.{length, take, drop, getD}
+use lib.IntN.{ℤ}
+use Rattle.lists.specs.Tests.{if_then_else_, _==_}
+use Rattle.lists.specs.Lists.{Every, some?, keep, count, times, first}
+use Rattle.sets.specs.Sets.{has?}
+use Rattle.rules.specs.declared.Kind.the-variants.{Event}
+use Rattle.rules.specs.Holds.{Row, document, nothingDue}
+use Rattle.rules.specs.Held.{viewRows}
+use Rattle.rules.specs.Events.{callControl, handlerAvailable, kindOf}
+use Rattle.rules.specs.Applets.{applet}
+use Rattle.rules.specs.Rows.{hasIdentifier, inUse, nextPair}
+use Rattle.rules.specs.Timers.{ownerOf}
+use Rattle.rules.specs.Envelopes.{envelopeOf}
+use Rattle.rules.specs.Arrivals.{choice, help as helpOn, expiry, settledArrival, envelopeMarks, otherMarks}
+use Rattle.rules.specs.Commands.{Menu, menuOf, menuBytes, eventBytes, isMenu}
+use Rattle.rules.specs.Calls.{Call, refusedWith, event, entry, arrival, settled, proactive, systemCommand, askEvent, newEntry, envelope, profile, send, response}
+use Rattle.rules.specs.Refusals.{Line, lines}
+use Rattle.rules.specs.Step.{lent, front}
+use Rattle.rules.specs.Beside.{menuReader}
+use Rattle.card.specs.declared.Card.{Card}
+use Rattle.card.specs.View.{view, Left}
+use Rattle.history.specs.Histories.{History, accepted}
+use Rattle.history.specs.Deeds.{clears, deletes}
+use Rattle.history.specs.Named.{isPresent, isSelectable, isRegistered, ownsTimer, hasOneShot, ownsControl, oneToEight, timerOwner, controlOwner, rowsNamed, inSession, isOutstanding, profileNamed}
+use Rattle.history.specs.Called.{isChosen, isHelped, isDue, Calls, arrivalIn}
+use Rattle.history.specs.Handed.{Seen, titleOf, handed, isEventList, codesHanded, isShown, codesNamed}
+use Rattle.history.specs.OnScreen.{leftDue, MenuRight}
+use Rattle.promises.specs.Watched.{entriesOf, callOf, refusalOf, calledBy, Next}
+use Rattle.promises.specs.OneShots.{SetAndSettled, FiresOnce}
+use Rattle.promises.specs.DocumentOne.{Room, Already}
+
+-- DEMAND 1. Every public call takes every input ..
+pub record Taken (c : Card) (x : Call) : Type 0 where
+  pub seen : Seen
+  pub card : Card
+  pub next : Next c seen card
+  pub call : callOf seen ≡ x
+
+-- .. a call on card c, seen as s, that hands back card k ..
+pub record Judged (c : Card) (s : Seen) (k : Card) : Type 0 where
+  -- .. gets a number only from a line of the refusals that lists the call and holds ..
+  pub holds : 1 ≤ refusalOf s → some? (λ (x : Line). x .number == refusalOf s && x .holds) (lines (view c) (callOf s)) ≡ true
+  -- .. and where a line holds it gets one, none higher than that line's: of several the lowest, and 0 just where none holds.
+  pub lowest : Every (λ (x : Line). x .holds ≡ true → (1 ≤ refusalOf s) × (refusalOf s ≤ x .number)) (lines (view c) (callOf s))
+  -- Refused, it hands the card back as it was, byte for byte, leaves every byte of a buffer lent to it, and gives its number only.
+  pub refused : (n : ℕ) → refusalOf s ≡ suc n → (k ≡ c) × (s .buffer ≡ lent (callOf s)) × (s .entry .answer ≡ refusedWith (suc n))
+  -- No second answer, buffer or card meets the contract of the same call.
+  pub no-second : (t : Seen) (j : Card) → Next c t j → callOf t ≡ callOf s → (t ≡ s) × (j ≡ k)
+
+-- DEMAND 2. Registration and triggering order stand with demand 3 (registered, called). HANDLER AVAILABILITY: the proactive handler while
+-- no command is outstanding (a profile ends it), the envelope handler with envelopes only, the response handler with call control and
+-- unrecognized ones.
+pub record Handlers (h : History) (s : Seen) : Type 0 where
+  pub envelope-marks : (bytes : List ℕ) → refusalOf s ≡ 0 → callOf s ≡ arrival (envelope bytes) → s .entry .answer .marks ≡ envelopeMarks (isOutstanding h) (envelopeOf bytes)
+  pub profile-marks : (bytes : List ℕ) → refusalOf s ≡ 0 → callOf s ≡ arrival (profile bytes) → s .entry .answer .marks ≡ otherMarks false
+  pub settled-marks : refusalOf s ≡ 0 → callOf s ≡ settled → s .entry .answer .marks ≡ otherMarks (isOutstanding h)
+
+-- MENU ORDER: the position that applet n requested for its next entry, and the row that this entry makes.
+abbrev pub positionOf : Card → (applet : ℕ) → ℕ
+positionOf c n = nextPair (applet (view c .tables) n) .position
+
+abbrev pub newRow : Seen → (applet : ℕ) (help : Bool) (text : List ℕ) → Row
+newRow s n help text = record { identifier = s .entry .answer .number; owner = n; text = text; help = help; enabled = true }
+
+-- The rows before and after a call, with the positions that were requested.
+pub record Orders (position : ℕ → ℕ) (before : List Row) (s : Seen) (after : List Row) : Type 0 where
+  -- A new row stands at its place: position p from 1 to the row count shifts rows p and after down by one ..
+  pub at-its-place : (n : ℕ) (help : Bool) (text : List ℕ) → callOf s ≡ entry (newEntry n help text) → refusalOf s ≡ 0
+      → 1 ≤ position n → position n ≤ length before → after ≡ take (position n - 1) before ++ newRow s n help text ∷ drop (position n - 1) before
+  -- .. 0, or more than the row count, means last.
+  pub last : (n : ℕ) (help : Bool) (text : List ℕ) → callOf s ≡ entry (newEntry n help text) → refusalOf s ≡ 0
+      → (position n ≡ 0) ⊎ (length before < position n) → after ≡ before ++ newRow s n help text ∷ []
+  -- Whatever the call, the rows that stay keep their order among each other.
+  pub kept : (p : ℕ → Bool) → ((i : ℕ) → p i ≡ true → inUse i after ≡ true) → ((i : ℕ) → p i ≡ true → inUse i before ≡ true)
+      → keep p (map (λ (r : Row). r .identifier) after) ≡ keep p (map (λ (r : Row). r .identifier) before)
+
+-- SYSTEM COMMANDS. The menu that the history wants: the title, and the enabled rows of selectable applets in the menu list's order.
+abbrev pub menuWanted : (asked : List ℕ) → History → Card → Menu
+menuWanted asked h c = menuOf (titleOf asked) (keep (isShown h) (viewRows (c .rows)))
+
+-- An accepted system command ..
+pub record HandsOut (asked : List ℕ) (h : History) (c : Card) (s : Seen) (k : Card) (buffer : List ℕ) : Type 0 where
+  -- .. hands out the menu first, if it is due: the one that the history wants, and read back it is that very menu ..
+  pub menu-first : c .desk .due .menu ≡ true → handed s ≡ menuBytes (menuWanted asked h c)
+  pub read-back : c .desk .due .menu ≡ true → menuReader document (handed s) ≡ record { refusal = 0; menu = menuWanted asked h c }
+  -- .. then the event list, if that is due, with the codes that the history wants ..
+  pub then-events : c .desk .due .menu ≡ false → c .desk .due .events ≡ true → handed s ≡ eventBytes (codesNamed h)
+  -- .. else nothing, and the card is as it was ..
+  pub else-nothing : c .desk .due .menu ≡ false → c .desk .due .events ≡ false → (handed s ≡ []) × (k ≡ c)
+  -- .. writes it at the front of the buffer, leaves the rest, and clears its mark.
+  pub at-the-front : s .buffer ≡ front (handed s) buffer
+  pub clears : k .desk .due ≡ leftDue (c .desk .due)
+
+-- What the calls do to the screen.
+pub record Shows (asked : List ℕ) (h : History) (c : Card) (s : Seen) (k : Card) : Type 0 where
+  pub hands-out : (buffer : List ℕ) → refusalOf s ≡ 0 → callOf s ≡ systemCommand buffer → HandsOut asked h c s k buffer
+  -- It is accepted if nothing is outstanding and the buffer has 256 bytes.
+  pub accepts : (buffer : List ℕ) → callOf s ≡ systemCommand buffer → c .desk .outstanding ≡ false → 256 ≤ length buffer → refusalOf s ≡ 0
+  -- No applet changes the screen: what an accepted send gives the terminal is neither a menu nor an event list.
+  pub sent : (n : ℕ) (bytes : List ℕ) → refusalOf s ≡ 0 → callOf s ≡ proactive (send n bytes) → (isMenu document bytes ≡ false) × (isEventList bytes ≡ false)
+
+-- DEMAND 3. The card's tables, after any calls, refused ones included, with this history of the accepted ones.
+pub record Holds (asked : List ℕ) (h : History) (c : Card) : Type 0 where
+  -- The menu list holds one row for each accepted menu entry whose applet has not been deleted since, and no other ..
+  pub rows : (p : Row → Bool) → count p (viewRows (c .rows)) ≡ count p (rowsNamed h)
+  -- .. (whatever is asked of a row, as many of both lists meet it), the count of rows is theirs ..
+  pub row-count : c .rows .count ≡ length (rowsNamed h)
+  -- .. all identifiers are different, whatever the titles ..
+  pub apart : (i : ℕ) → count (hasIdentifier i) (viewRows (c .rows)) ≤ 1
+  -- .. and the row with an identifier has the owner, text, help mark and enabled mark that the history names.
+  pub row : (i : ℕ) (none : Row) → first (hasIdentifier i) none (viewRows (c .rows)) ≡ first (hasIdentifier i) none (rowsNamed h)
+  -- The menu command always fits in 250 bytes.
+  pub fits : length (menuBytes (menuWanted asked h c)) ≤ 250
+  -- Each timer has at most one owner, the one that the history names (0: nobody) ..
+  pub timer : (k : ℕ) → ownerOf (c .bank .owner) k ≡ timerOwner k h
+  pub one-owner : (k n o : ℕ) → 1 ≤ n → 1 ≤ o → ownsTimer k n h ≡ true → ownsTimer k o h ≡ true → n ≡ o
+  pub owned-count : (n : ℕ) → 1 ≤ n → count (λ o. o == n) (c .bank .owner) ≡ count (λ k. ownsTimer k n h) oneToEight
+  -- .. and so has call control.
+  pub control : c .control ≡ controlOwner h
+  pub one-control : (n o : ℕ) → 1 ≤ n → 1 ≤ o → ownsControl n h ≡ true → ownsControl o h ≡ true → n ≡ o
+  -- The sets say who is registered for an event by its place (call control: its owner, above), who is there, and who is selectable.
+  pub registered : (n e : ℕ) → e < 20 → (e == callControl) ≡ false → has? (getD (c .registered) e 0) n ≡ isRegistered n e h
+  pub present : (n : ℕ) → has? (c .roll .present) n ≡ isPresent n h
+  pub selectable : (n : ℕ) → has? (c .selectable) n ≡ isSelectable n h
+  pub applet-count : c .roll .count ≡ count (λ n. isPresent n h) oneToEight
+  -- The title is the one that the card was made with (DocumentOne.antt); the profile, whether a session has begun and whether a command
+  -- is outstanding are what the history names.
+  pub title : take (c .desk .«title_len») (c .desk .title) ≡ titleOf asked
+  pub profile : c .desk .profile ≡ profileNamed h
+  pub session : c .desk .session ≡ inSession h
+  pub outstanding : c .desk .outstanding ≡ isOutstanding h
+
+-- A call more, seen as s: whom it calls, and what becomes of a one-shot.
+pub record Answers (h : History) (c : Card) (s : Seen) (k : Card) : Type 0 where
+  -- EVERY ACCEPTED EVENT names each selectable applet that the history registers for it, once, in order, and no other ..
+  pub called : refusalOf s ≡ 0 → Calls h (arrivalIn (callOf s)) (calledBy s)
+  -- .. no second list meets that, and it is as long as the list of those that are to be called ..
+  pub one-list : refusalOf s ≡ 0 → (other : List ℕ) → Calls h (arrivalIn (callOf s)) other → other ≡ calledBy s
+  pub as-many : refusalOf s ≡ 0 → length (calledBy s) ≡ count (isDue h (arrivalIn (callOf s))) oneToEight
+  -- .. a menu choice counts only while its row is enabled ..
+  pub choice-counts : (i n : ℕ) → refusalOf s ≡ 0 → arrivalIn (callOf s) ≡ choice i
+      → times n (calledBy s) ≡ (if isSelectable n h && some? (isChosen i n) (rowsNamed h) then 1 else 0)
+  -- .. a help request only while that row also offers help ..
+  pub help-counts : (i n : ℕ) → refusalOf s ≡ 0 → arrivalIn (callOf s) ≡ helpOn i
+      → times n (calledBy s) ≡ (if isSelectable n h && some? (isHelped i n) (rowsNamed h) then 1 else 0)
+  -- .. and the end of a timer calls the owner that the history names.
+  pub expiry-counts : (t n : ℕ) → refusalOf s ≡ 0 → arrivalIn (callOf s) ≡ expiry t
+      → times n (calledBy s) ≡ (if isSelectable n h && ownsTimer t n h then 1 else 0)
+  -- Only settled arrives as the one-shot's event. A ONE-SHOT fires exactly at an accepted settled that finds its applet selectable ..
+  pub only-settled : arrivalIn (callOf s) ≡ settledArrival → callOf s ≡ settled
+  pub fires : (n : ℕ) → refusalOf s ≡ 0 → callOf s ≡ settled → times n (calledBy s) ≡ (if isSelectable n h && hasOneShot n h then 1 else 0)
+  -- .. and is used up then; that of a locked applet stays.
+  pub used-up : (n : ℕ) → refusalOf s ≡ 0 → callOf s ≡ settled
+      → has? (getD (k .registered) handlerAvailable 0) n ≡ (if has? (c .selectable) n then false else has? (getD (c .registered) handlerAvailable 0) n)
+  -- Any other call leaves it that neither clears it nor deletes its applet, and every refused call does.
+  pub lasts : (n : ℕ) → (refusalOf s ≡ 0 → (clears n handlerAvailable (s .entry) ≡ false) × (deletes n (s .entry) ≡ false) × (callOf s ≡ settled → has? (c .selectable) n ≡ false))
+      → has? (getD (c .registered) handlerAvailable 0) n ≡ true → has? (getD (k .registered) handlerAvailable 0) n ≡ true
+  -- What is asked of a registration is told as the history names it.
+  pub tells : (n e : ℕ) (v : ℤ) → refusalOf s ≡ 0 → callOf s ≡ event (askEvent n v) → kindOf v ≡ Event e → s .entry .answer .says ≡ isRegistered n e h
+
+-- THE SCREEN.
+pub record OnScreen (asked : List ℕ) (l : List Seen) (c : Card) : Type 0 where
+  -- IN A SESSION, UNLESS THE MENU IS DUE, the menu that the terminal was last handed since the profile, read back, is exactly what the
+  -- history wants (MenuRight, crates/history/specs/OnScreen.antt); unless the event list is due, so are the codes last handed.
+  pub menu : c .desk .session ≡ true → c .desk .due .menu ≡ false → MenuRight asked l (view c) (accepted (entriesOf l))
+  pub codes : c .desk .session ≡ true → c .desk .due .events ≡ false → codesHanded l ≡ codesNamed (accepted (entriesOf l))
+  -- WHAT IS DUE IS AT MOST TWO HAND-OUTS AWAY: a hand-out, its response and one hand-out more leave nothing due.
+  pub two-are-enough : (s t u : Seen) (k j i : Card) → Next c s k → Next k t j → Next j u i
+      → (buffer other : List ℕ) → callOf s ≡ systemCommand buffer → callOf t ≡ proactive response → callOf u ≡ systemCommand other
+      → c .desk .outstanding ≡ false → 256 ≤ length buffer → 256 ≤ length other → i .desk .due ≡ nothingDue
+
+-- ALL OF IT, of a card c that was made with the title asked for, and the calls l that were seen on it.
+pub record Promised (asked : List ℕ) (l : List Seen) (c : Card) : Type 0 where
+  -- demand 1; and what the contract of every call takes for granted of a card holds of it
+  pub left : Left c
+  pub taken : (x : Call) → Taken c x
+  pub judged : (s : Seen) (k : Card) → Next c s k → Judged c s k
+  -- demand 2
+  pub handlers : (s : Seen) (k : Card) → Next c s k → Handlers (accepted (entriesOf l)) s
+  pub orders : (s : Seen) (k : Card) → Next c s k → Orders (positionOf c) (viewRows (c .rows)) s (viewRows (k .rows))
+  pub shows : (s : Seen) (k : Card) → Next c s k → Shows asked (accepted (entriesOf l)) c s k
+  -- demand 3
+  pub holds : Holds asked (accepted (entriesOf l)) c
+  pub answers : (s : Seen) (k : Card) → Next c s k → Answers (accepted (entriesOf l)) c s k
+  -- .. a one-shot, set and then settled, fires exactly once, wherever that stands in the calls (OneShots.antt)
+  pub one-shots : (n : ℕ) (later : List Seen) (moment : Seen) (stretch : List Seen) (setting : Seen) (before : List Seen)
+      → l ≡ later ++ (moment ∷ stretch ++ setting ∷ before) → SetAndSettled n later moment stretch setting before → FiresOnce n later moment stretch
+  -- the screen; and the card's room and what is so already (DocumentOne.antt)
+  pub screen : OnScreen asked l c
+  pub room : Room c
+  pub already : (s : Seen) (k : Card) → Next c s k → Already (accepted (entriesOf l)) c s k
