@@ -17,7 +17,7 @@ use Rattle.rules.specs.declared.Pair.{Pair}
 use Rattle.rules.specs.declared.Grant.{Grant}
 use Rattle.rules.specs.Applets.{requested}
 use Rattle.rules.specs.Rows.{noPair}
-use Rattle.admission.specs.Refuses.{taken, asksFor, hasAsked}
+use Rattle.admission.specs.Refuses.{taken, asksFor, hasRequested}
 
 -- blanks request nothing
 none-blank : (n : ℕ) → requested (replicate n noPair) ≡ []
@@ -50,7 +50,7 @@ module _ (i : ℕ) (other : i ≡ 0 → ⊥) where
       go true e r = let z = eqb-true (p .identifier) 0 e in rw (ne-eqb (p .identifier) i (λ q. other (sym q ∙ z))) r
       go false e r = ap (λ (b : Bool). (p .identifier == i) || b) r
 
-  pub has-asked : (l : List Grant) → in? i (taken l) ≡ some? (hasAsked i) l
+  pub has-asked : (l : List Grant) → in? i (taken l) ≡ some? (hasRequested i) l
   has-asked l = in-taken i l ∙ some-alike _ _ l (λ g. in-requested (g .pairs))
 
 -- a loop that looks for an identifier requested twice: what is found so far and what is left of the pairs decide

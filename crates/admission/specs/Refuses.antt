@@ -34,5 +34,5 @@ abbrev pub asksFor : (identifier : ℕ) → Pair → Bool
 asksFor i p = p .identifier == i
 
 -- one who was granted this requests the identifier
-abbrev pub hasAsked : (identifier : ℕ) → Grant → Bool
-hasAsked i g = some? (asksFor i) (g .pairs)
+abbrev pub hasRequested : (identifier : ℕ) → Grant → Bool
+hasRequested i g = some? (asksFor i) (g .pairs)

@@ -19,7 +19,7 @@ ghost use Rattle.rules.specs.Holds.{document};
 ghost use Rattle.rules.specs.Applets.{lookedAt, outOfRange, requested, newcomer};
 ghost use Rattle.rules.specs.Rows.{noPair};
 ghost use Rattle.applets.specs.ByNumber.{grantOf};
-ghost use Rattle.admission.specs.Refuses.{RefusesInstall, limit, taken, asksFor, hasAsked};
+ghost use Rattle.admission.specs.Refuses.{RefusesInstall, limit, taken, asksFor, hasRequested};
 
 // The last applet number; the most that a request may ask for; the most that all may.
 const LAST_APPLET: u8 = Roll::APPLETS as u8;
@@ -92,7 +92,7 @@ fn asks(pairs: [Pair; Grant::ENTRIES], from: usize, identifier: u8) -> bool
 
 // Whether an applet present requests an identifier.
 fn is_taken(grants: [Grant; Roll::APPLETS], identifier: u8) -> bool
-    ensures { λ r. ⌜ r ≡ some? (hasAsked identifier) grants ⌝ }
+    ensures { λ r. ⌜ r ≡ some? (hasRequested identifier) grants ⌝ }
 {
     let mut any = false;
     let mut i = 0;

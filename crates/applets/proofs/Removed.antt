@@ -20,7 +20,7 @@ use Rattle.lists.proofs.Padded.{take-padded}
 use Rattle.lists.proofs.Places.{getD-blank}
 use Rattle.lists.proofs.Tables.{table-alike, table-set, map-table}
 use Rattle.lists.proofs.Truth.{and-true, and-false}
-use Rattle.sets.specs.Sets.{has?, setOf, single, setWithout, turnedSet}
+use Rattle.sets.specs.Sets.{has?, setOf, single, setWithout, switchedSet}
 use Rattle.sets.proofs.Bits.{has-set, set-alike}
 use Rattle.sets.proofs.LeftOut.{single-has, turned-without}
 use Rattle.rules.specs.declared.Grant.{Grant}
@@ -97,7 +97,7 @@ module _ (l : List Applet) (n : ℕ) where
   pub all-less : map (λ (s : ℕ). setWithout s (single n)) (table 20 (registeredSet l)) ≡ table 20 (registeredSet less)
   all-less = map-table (λ (s : ℕ). setWithout s (single n)) 20 (registeredSet l) ∙ table-alike 20 _ _ (λ e h. registered-less e)
 
-  pub selectable-less : turnedSet (selectableSet l) n false ≡ selectableSet less
+  pub selectable-less : switchedSet (selectableSet l) n false ≡ selectableSet less
   unfolding selectableSet
   selectable-less = turned-without (setOf (λ k. at l k .selectable)) n ∙ set-less (λ (x : Applet). x .selectable) refl
 

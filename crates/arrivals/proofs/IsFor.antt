@@ -25,7 +25,7 @@ use Rattle.rules.specs.Arrivals.{Arrival, event, choice, help, expiry, nothing,
 use Rattle.runs.specs.Sound.{SoundTables}
 use Rattle.events.proofs.Places.{Among, named-among}
 use Rattle.applets.specs.ByNumber.{at, registeredSet}
-use Rattle.menu_shown.specs.Asked.{askedOwner}
+use Rattle.menu_shown.specs.Chosen.{chosenOwner}
 use Rattle.menu_shown.proofs.Promise.{choice-calls, help-calls}
 use Rattle.arrivals.specs.Whom.{IsFor, ForCode}
 
@@ -86,14 +86,14 @@ module _ (t : Tables) where
 
   pub item-for
       : SoundTables t → {rows : List Row} → t .rows ≡ rows → (item : ℕ) (h : Bool) {o s : ℕ}
-      → o ≡ askedOwner item h rows
+      → o ≡ chosenOwner item h rows
       → s ≡ single o
       → IsFor t (arrivalOf (Menu item h)) s
   unfolding arrivalOf
   item-for sound q item false e f =
-      rw (f, e, ← q) (for-one t (choice item) (askedOwner item false (t .rows)) (λ x k. choice-calls t item x (sound .identifiers-apart) k))
+      rw (f, e, ← q) (for-one t (choice item) (chosenOwner item false (t .rows)) (λ x k. choice-calls t item x (sound .identifiers-apart) k))
   item-for sound q item true e f =
-      rw (f, e, ← q) (for-one t (help item) (askedOwner item true (t .rows)) (λ x k. help-calls t item x (sound .identifiers-apart) k))
+      rw (f, e, ← q) (for-one t (help item) (chosenOwner item true (t .rows)) (λ x k. help-calls t item x (sound .identifiers-apart) k))
 
   pub control-for : {control s : ℕ} → t .control ≡ control → s ≡ single control → IsFor t (arrivalOf Call) s
   unfolding arrivalOf wants registered

@@ -43,7 +43,7 @@ pub fn whom(e: Envelope, rows: Rows, registered: [u8; Kind::EVENTS], bank: Bank,
 {
     match e {
         Envelope::Menu { item, help } => {
-            let owner = menu_shown::asked_owner(rows, item, help);
+            let owner = menu_shown::chosen_owner(rows, item, help);
             sets::bit(owner)
         }
         Envelope::Call => sets::bit(control),

@@ -10,7 +10,7 @@ use Rattle.lists.specs.Tests.{if_then_else_}
 use Rattle.lists.specs.Lists.{Every}
 use Rattle.lists.specs.Tables.{table}
 use Rattle.lists.proofs.Every.{every-so}
-use Rattle.sets.specs.Sets.{has?, single, meets, setWithout, turnedSet}
+use Rattle.sets.specs.Sets.{has?, single, meets, setWithout, switchedSet}
 use Rattle.sets.proofs.LeftOut.{turned-without, meets-without}
 use Rattle.rules.specs.declared.Roll.{Roll}
 use Rattle.rules.specs.declared.Rows.{Rows}
@@ -34,7 +34,7 @@ use Rattle.applets.proofs.Made.{made-set}
 use Rattle.applets.specs.Rolls.{rollWithout}
 use Rattle.lists.proofs.Tables.{table-length}
 use Rattle.applets.proofs.Removed.{registered-less, all-less, selectable-less, made-less, roll-less}
-use Rattle.menu_shown.specs.Asked.{hasEnabledRow}
+use Rattle.menu_shown.specs.Chosen.{hasEnabledRow}
 use Rattle.menu_shown.proofs.MenuByApplets.{delete-menu}
 use Rattle.events_shown.specs.Turns.{anyCode, codeTurns}
 use Rattle.card.specs.declared.Card.{Card}
@@ -58,7 +58,7 @@ module _ (c : Card) (left : Left c) (n : ℕ) (there : has? (c .roll .present) n
   u = adminTables t (delete n)
 
   abbrev is : ℕ
-  is = turnedSet (c .selectable) n false
+  is = switchedSet (c .selectable) n false
 
   here : present t n ≡ true
   here = sym (present-by c left n) ∙ there
@@ -86,7 +86,7 @@ module _ (c : Card) (left : Left c) (n : ℕ) (there : has? (c .roll .present) n
 
   selectable-next : is ≡ selectableSet (u .applets)
   unfolding adminTables
-  selectable-next = ap (λ (s : ℕ). turnedSet s n false) (selectable-form c left) ∙ selectable-less (t .applets) n
+  selectable-next = ap (λ (s : ℕ). switchedSet s n false) (selectable-form c left) ∙ selectable-less (t .applets) n
 
   registered-next : map (λ (s : ℕ). setWithout s (single n)) (c .registered) ≡ table 20 (registeredSet (u .applets))
   unfolding adminTables

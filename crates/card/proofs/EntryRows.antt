@@ -32,7 +32,7 @@ use Rattle.runs.proofs.Looked.{sound-applet, number-from, number-to}
 use Rattle.runs.proofs.Filled.{ChangesEntry, changes-entry}
 use Rattle.applets.specs.ByNumber.{byNumber, grantOf, rollOf, selectableSet, registeredSet, madeTable}
 use Rattle.menu_shown.proofs.RowTurns.{enabled-shows, text-shows}
-use Rattle.menu_entries.specs.declared.Turned.{Turned}
+use Rattle.menu_entries.specs.declared.Touched.{Touched}
 use Rattle.menu_entries.specs.ItsRow.{markedBy, rewordedBy}
 use Rattle.menu_entries.proofs.Its.{its-known, its-marked, its-reworded, none-marked, none-reworded, kept-reworded, marked-says, reworded-says}
 use Rattle.events_shown.proofs.Quiet.{rows-events}
@@ -106,7 +106,7 @@ owner-there t s n i its =
 
 -- A CALL THAT CHANGES ROWS ONLY, by what became of the rows
 module _ (c : Card) (left : Left c) (n : ℕ) (y : EntryCall) {r : ℕ} (e : r ≡ refusal (view c) (entry y)) (plain : entryAnswer (view c .tables) y ≡ accepted) {a : Answer} (says : a ≡ storedAnswer (refusedWith r))
-    {shown x : Bool} (sh : shown ≡ has? (c .selectable) n) (w : Turned) (due : x ≡ (c .desk .session && (shown && w .turns) || c .desk .due .menu))
+    {shown x : Bool} (sh : shown ≡ has? (c .selectable) n) (w : Touched) (due : x ≡ (c .desk .session && (shown && w .turns) || c .desk .due .menu))
   where
     leaves : {k : Card} → k ≡ stored (step (view c) (entry y) .after) → _≡_ {A = Reply} (record { card = k; answer = a }) (replied (step (view c) (entry y)))
     unfolding answer
@@ -159,13 +159,13 @@ turn-answer t n i true = refl
 turn-answer t n i false = refl
 
 module _ (c : Card) (left : Left c) (n i : ℕ) (on : Bool) {there : Bool} (found : there ≡ has? (c .roll .present) n)
-    {shown x : Bool} (sh : shown ≡ has? (c .selectable) n) {w : Turned} (is : w ≡ markedBy n i on (viewRows (c .rows)))
+    {shown x : Bool} (sh : shown ≡ has? (c .selectable) n) {w : Touched} (is : w ≡ markedBy n i on (viewRows (c .rows)))
     (due : x ≡ (c .desk .session && (shown && w .turns) || c .desk .due .menu))
     {r : ℕ} (e : r ≡ lowest (line 2 (not there) ∷ line 11 (not (w .its)) ∷ [])) {a : Answer} (says : a ≡ storedAnswer (refusedWith r))
   where
     its-is : w .its ≡ some? (itsRow n i) (view c .tables .rows)
     unfolding view
-    its-is = ap (λ (k : Turned). k .its) is ∙ marked-says (view c .tables .rows) n i on
+    its-is = ap (λ (k : Touched). k .its) is ∙ marked-says (view c .tables .rows) n i on
 
     is-turned : r ≡ refusal (view c) (entry (turning on n i))
     is-turned = turn-refusal (view c) n (found-by c left n found) i on (its-is ∙ its-known (view c .tables .rows) n i) e
@@ -183,25 +183,25 @@ module _ (c : Card) (left : Left c) (n i : ℕ) (on : Bool) {there : Bool} (foun
             rows-changed c left n (turning on n i) is-turned (turn-answer t n i on) says sh w due
             (e ∙ rw (found ∙ present-by c left n ∙ here, its-is ∙ q) (unfold lowest in refl))
             (withEnabled n i on (t .rows)) here (turn-tables t n i on)
-            (enabled-shows t s n i q on ∙ ap (λ (b : Bool). applet t n .selectable && b) (sym (ap (λ (k : Turned). k .turns) so)))
-            (ap (λ (k : Turned). k .rows) so)
+            (enabled-shows t s n i q on ∙ ap (λ (b : Bool). applet t n .selectable && b) (sym (ap (λ (k : Touched). k .turns) so)))
+            (ap (λ (k : Touched). k .rows) so)
         go false q =
             let t = view c .tables in
             let so = is ∙ none-marked (t .rows) n i q on in
             rows-kept c left n (turning on n i) is-turned (turn-answer t n i on) says sh w due
             (λ z. clashing (two-lines there (w .its) (sym e ∙ z)) (its-is ∙ q))
-            (ap (λ (k : Turned). k .rows) so) (ap (λ (k : Turned). k .turns) so)
+            (ap (λ (k : Touched). k .rows) so) (ap (λ (k : Touched). k .turns) so)
 
 -- CHANGE
 module _ (c : Card) (left : Left c) (n i : ℕ) (help : Bool) (text : List ℕ) {there : Bool} (found : there ≡ has? (c .roll .present) n)
     {shown x : Bool} (sh : shown ≡ has? (c .selectable) n) {g : Grant} (granted : g ≡ byNumber (grantOf nobody) (c .roll .grants) n)
-    {fits : Bool} (fit : fits ≡ not (unfitText (g .text) text)) {w : Turned} (is : w ≡ rewordedBy n i fits help text (viewRows (c .rows)))
+    {fits : Bool} (fit : fits ≡ not (unfitText (g .text) text)) {w : Touched} (is : w ≡ rewordedBy n i fits help text (viewRows (c .rows)))
     (due : x ≡ (c .desk .session && (shown && w .turns) || c .desk .due .menu))
     {r : ℕ} (e : r ≡ lowest (line 2 (not there) ∷ line 11 (not (w .its)) ∷ line 12 (not fits) ∷ [])) {a : Answer} (says : a ≡ storedAnswer (refusedWith r))
   where
     row-is : w .its ≡ some? (itsRow n i) (view c .tables .rows)
     unfolding view
-    row-is = ap (λ (k : Turned). k .its) is ∙ reworded-says (view c .tables .rows) n i fits help text
+    row-is = ap (λ (k : Touched). k .its) is ∙ reworded-says (view c .tables .rows) n i fits help text
 
     limit-is : g .text ≡ applet (view c .tables) n .limits .text
     unfolding grantOf
@@ -227,8 +227,8 @@ module _ (c : Card) (left : Left c) (n i : ℕ) (help : Bool) (text : List ℕ) 
         let so = worded ∙ its-reworded (t .rows) n i (s .identifiers-apart) q help text in
         rows-changed c left n (changeEntry n i help text) is-changed refl says sh w due z
         (withText n i help text (t .rows)) (does .here) refl
-        (text-shows t s n i (does .its) help text ∙ ap (λ (b : Bool). applet t n .selectable && b) (sym (ap (λ (k : Turned). k .turns) so)))
-        (ap (λ (k : Turned). k .rows) so ∙ ap (λ (k : List ℕ). storedRows (withText n i help k (t .rows))) whole)
+        (text-shows t s n i (does .its) help text ∙ ap (λ (b : Bool). applet t n .selectable && b) (sym (ap (λ (k : Touched). k .turns) so)))
+        (ap (λ (k : Touched). k .rows) so ∙ ap (λ (k : List ℕ). storedRows (withText n i help k (t .rows))) whole)
 
     pub changes-words : Changes
     unfolding view
@@ -243,7 +243,7 @@ module _ (c : Card) (left : Left c) (n i : ℕ) (help : Bool) (text : List ℕ) 
             (is ∙ ap (λ (f : Bool). rewordedBy n i f help text l) p)
         go true false q p =
             let so = is ∙ ap (λ (f : Bool). rewordedBy n i f help text l) p ∙ kept-reworded l n i help text in
-            kept (λ z. clashing (three-lines there (w .its) fits (sym e ∙ z) .1) p) (ap (λ (k : Turned). k .rows) so) (ap (λ (k : Turned). k .turns) so)
+            kept (λ z. clashing (three-lines there (w .its) fits (sym e ∙ z) .1) p) (ap (λ (k : Touched). k .rows) so) (ap (λ (k : Touched). k .turns) so)
         go false f q p =
             let so = is ∙ none-reworded l n i q fits help text in
-            kept (λ z. clashing (three-lines there (w .its) fits (sym e ∙ z) .0) (row-is ∙ q)) (ap (λ (k : Turned). k .rows) so) (ap (λ (k : Turned). k .turns) so)
+            kept (λ z. clashing (three-lines there (w .its) fits (sym e ∙ z) .0) (row-is ∙ q)) (ap (λ (k : Touched). k .rows) so) (ap (λ (k : Touched). k .turns) so)

@@ -16,7 +16,7 @@ use Rattle.lists.proofs.Decided.{turned}
 use Rattle.lists.proofs.Truth.{and-false, beq-self, not-not}
 use Rattle.lists.proofs.Places.{set-held}
 use Rattle.lists.proofs.Tables.{table-alike, table-set}
-use Rattle.sets.specs.Sets.{has?, meets, turnedSet}
+use Rattle.sets.specs.Sets.{has?, meets, switchedSet}
 use Rattle.sets.proofs.Bits.{has-set, set-alike}
 use Rattle.rules.specs.declared.Kind.{Kind}
 use Rattle.rules.specs.declared.Kind.the-variants.{Event}
@@ -110,7 +110,7 @@ module _ (c : Card) (left : Left c) (n p : ℕ) (on : Bool) (within : p < 20) (t
   unfolding applet
   long = let e : length (at l n .events) ≡ 20 = sound-applet (view c .tables) (left-sound c left .tables) n there .events in omega arith
 
-  own-is : registeredSet next p ≡ turnedSet was n on
+  own-is : registeredSet next p ≡ switchedSet was n on
   unfolding registeredSet
   own-is = set-alike _ _ each
     where
@@ -127,13 +127,13 @@ module _ (c : Card) (left : Left c) (n p : ℕ) (on : Bool) (within : p < 20) (t
   others-are : (j : ℕ) → (j ≡ p → ⊥) → registeredSet next j ≡ registeredSet l j
   others-are j h = registered-kept l n (withEvent p on) here (λ x. refl) j (λ x. getD-set-other (x .events) p j on false h)
 
-  sets-are : set (c .registered) p (turnedSet was n on) ≡ table 20 (registeredSet next)
+  sets-are : set (c .registered) p (switchedSet was n on) ≡ table 20 (registeredSet next)
   sets-are =
-      ap (λ (k : List ℕ). set k p (turnedSet was n on)) (registered-form c left)
-      ∙ table-set 20 (registeredSet l) p (turnedSet was n on)
+      ap (λ (k : List ℕ). set k p (switchedSet was n on)) (registered-form c left)
+      ∙ table-set 20 (registeredSet l) p (switchedSet was n on)
       ∙ table-alike 20 _ _ (λ j h. go j (j == p) refl)
     where
-      go : (j : ℕ) (b : Bool) → (j == p) ≡ b → (if b then turnedSet was n on else registeredSet l j) ≡ registeredSet next j
+      go : (j : ℕ) (b : Bool) → (j == p) ≡ b → (if b then switchedSet was n on else registeredSet l j) ≡ registeredSet next j
       go j true e = sym own-is ∙ ap (registeredSet next) (sym (eqb-true j p e))
       go j false e = sym (others-are j (eqb-false j p e))
 
@@ -151,9 +151,9 @@ module _ (c : Card) (left : Left c) (n p : ℕ) (on : Bool) (within : p < 20) (t
       changed-sound (view c .tables) n (withEvent p on)
       (λ x. record { number = refl; priority = refl; limits = refl; made = refl; events = length-set (x .events) p on }) (left-sound c left .tables)
 
-  events-differ : eventsTurn p was (turnedSet was n on) (c .selectable) ≡ eventsChange (view c .tables) (withApplets (view c .tables) next)
+  events-differ : eventsTurn p was (switchedSet was n on) (c .selectable) ≡ eventsChange (view c .tables) (withApplets (view c .tables) next)
   events-differ =
-      event-by c left (withApplets (view c .tables) next) sound-next (left-bounds c left) p (turnedSet was n on) within
+      event-by c left (withApplets (view c .tables) next) sound-next (left-bounds c left) p (switchedSet was n on) within
       (selectable-same ∙ sym (selectable-form c left)) own-is others-are
 
 -- a registration in its two cases
@@ -258,7 +258,7 @@ module _
 
         when-event : (r == 0) ≡ true → (p == callControl) ≡ false → After g o due (tablesBy m (event call) r)
         when-event z q =
-            let turns-to : g ≡ turnedSet was′ n on = sets ∙ rw (z, q) refl in
+            let turns-to : g ≡ switchedSet was′ n on = sets ∙ rw (z, q) refl in
             let own : o ≡ c .control = owns ∙ rw (z, q) refl in
             let u = withApplets (m .tables) (change (hasNumber n) (withEvent p on) (m .tables .applets)) in
             let is : withRegistration (m .tables) n p on ≡ u = by-applet (m .tables) n p on q in

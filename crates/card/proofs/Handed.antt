@@ -32,7 +32,7 @@ use Rattle.commands.specs.Fits.{Fits, shownOf}
 use Rattle.commands.proofs.Lines.{rows-under}
 use Rattle.commands.proofs.Whole.{menu-most}
 use Rattle.refusals.proofs.Calls.{hand-room}
-use Rattle.menu_shown.specs.Asked.{isShown}
+use Rattle.menu_shown.specs.Chosen.{isShown}
 use Rattle.menu_shown.proofs.BySet.{shown-by}
 use Rattle.events_shown.specs.declared.Codes.{Codes}
 use Rattle.events_shown.specs.Listed.{codesFrom, codesOf}

@@ -15,7 +15,7 @@ use Rattle.lists.proofs.Every.{every-so, every-both}
 use Rattle.lists.proofs.Firsts.{first-missed}
 use Rattle.lists.proofs.Tables.{table-alike}
 use Rattle.lists.proofs.Truth.{and-left}
-use Rattle.sets.specs.Sets.{turnedSet}
+use Rattle.sets.specs.Sets.{switchedSet}
 use Rattle.sets.proofs.Bits.{set-alike}
 use Rattle.rules.specs.declared.Answer.{Answer}
 use Rattle.rules.specs.declared.Grant.{Grant}
@@ -33,7 +33,7 @@ use Rattle.runs.specs.Sound.{SoundApplet, SoundTables}
 use Rattle.runs.proofs.Looked.{each-found, absent-nobody}
 use Rattle.runs.proofs.Filled.{Installs, installs}
 use Rattle.runs.proofs.Installed.{install-room}
-use Rattle.menu_shown.specs.Asked.{isEnabledOf, hasEnabledRow}
+use Rattle.menu_shown.specs.Chosen.{isEnabledOf, hasEnabledRow}
 use Rattle.menu_shown.proofs.MenuByApplets.{install-menu}
 use Rattle.events_shown.proofs.Quiet.{install-events}
 use Rattle.applets.specs.ByNumber.{at, grantOf, rollOf, selectableSet, registeredSet, madeTable}
@@ -100,9 +100,9 @@ module _ (c : Card) (left : Left c) (n : ℕ) (q : Request) where
     unfolding adminTables newcomer
     roll-next = ap (λ (r : Roll). rollWith r n (grantOf x)) (roll-form c left) ∙ roll-more l x absent from-one room own
 
-    selectable-next : turnedSet (c .selectable) n true ≡ selectableSet (u .applets)
+    selectable-next : switchedSet (c .selectable) n true ≡ selectableSet (u .applets)
     unfolding adminTables newcomer selectableSet
-    selectable-next = ap (λ (s : ℕ). turnedSet s n true) (selectable-form c left) ∙ set-more l x absent (λ (y : Applet). y .selectable)
+    selectable-next = ap (λ (s : ℕ). switchedSet s n true) (selectable-form c left) ∙ set-more l x absent (λ (y : Applet). y .selectable)
 
     -- what nobody has, the newcomer has
     as-nobody : {A : Type 0} (f : Applet → A) → f x ≡ f nobody → (k : ℕ) → f (at (u .applets) k) ≡ f (at l k)
@@ -145,7 +145,7 @@ module _ (c : Card) (left : Left c) (n : ℕ) (q : Request) where
         : {g : Grant} {r : Roll} {s : ℕ}
         → g ≡ grantOf x
         → r ≡ rollWith (c .roll) n g
-        → s ≡ turnedSet (c .selectable) n true
+        → s ≡ switchedSet (c .selectable) n true
         → _≡_ {A = Card}
         (record { roll = r; selectable = s; registered = c .registered; made = c .made; control = c .control; rows = c .rows; bank = c .bank; desk = c .desk })
         (stored (record { tables = u; desk = marked t u (view c .desk) }))
@@ -179,7 +179,7 @@ module _ (c : Card) (left : Left c) (n : ℕ) (q : Request) where
         : (h : r ≡ 0) {g : Grant} {s : ℕ} {w : Roll} {k : Card}
         → g ≡ grantOf x
         → w ≡ rollWith (c .roll) n g
-        → s ≡ turnedSet (c .selectable) n true
+        → s ≡ switchedSet (c .selectable) n true
         → k ≡ record { roll = w; selectable = s; registered = c .registered; made = c .made; control = c .control; rows = c .rows; bank = c .bank; desk = c .desk }
         → Leaves k
     unfolding tablesAfter

@@ -11,7 +11,7 @@ use borrow.Author.Tests.{eqb-true}
 use Rattle.lists.proofs.Decided.{turned, clashing}
 use Rattle.lists.proofs.Truth.{and-left}
 use Rattle.lists.proofs.Tables.{table-alike}
-use Rattle.sets.specs.Sets.{has?, meets, turnedSet}
+use Rattle.sets.specs.Sets.{has?, meets, switchedSet}
 use Rattle.sets.proofs.Bits.{set-alike, set-has, set-lt}
 use Rattle.rules.specs.declared.Answer.{Answer}
 use Rattle.rules.specs.Holds.{Applet, Bounds, Tables, Model, withApplets, withSelectable}
@@ -25,7 +25,7 @@ use Rattle.runs.proofs.Looked.{number-from, number-to}
 use Rattle.runs.proofs.Registered.{changed-sound, selectable-same}
 use Rattle.applets.specs.ByNumber.{at, selectableSet, registeredSet}
 use Rattle.applets.proofs.Numbers.{at-change, roll-kept, registered-kept, made-kept}
-use Rattle.menu_shown.specs.Asked.{hasEnabledRow}
+use Rattle.menu_shown.specs.Chosen.{hasEnabledRow}
 use Rattle.menu_shown.proofs.MenuByApplets.{lock-menu}
 use Rattle.events_shown.specs.Turns.{anyCode, codeTurns}
 use Rattle.events_shown.proofs.Shown.{no-turn}
@@ -60,7 +60,7 @@ module _ (c : Card) (left : Left c) (n : ℕ) (on : Bool) (there : present (view
   unfolding present
   here = there
 
-  selectable-turned : turnedSet (c .selectable) n on ≡ selectableSet next
+  selectable-turned : switchedSet (c .selectable) n on ≡ selectableSet next
   unfolding selectableSet
   selectable-turned = set-alike _ _ each
     where
@@ -77,9 +77,9 @@ module _ (c : Card) (left : Left c) (n : ℕ) (on : Bool) (there : present (view
   registered-same : (e : ℕ) → registeredSet next e ≡ registeredSet l e
   registered-same e = registered-kept l n (withSelectable on) here (λ x. refl) e (λ x. refl)
 
-  codes-differ : anyCode (codeTurns (c .registered) (c .selectable) (turnedSet (c .selectable) n on)) ≡ eventsChange t u
+  codes-differ : anyCode (codeTurns (c .registered) (c .selectable) (switchedSet (c .selectable) n on)) ≡ eventsChange t u
   codes-differ =
-      codes-by c left u (changed-sound t n (withSelectable on) (selectable-same on) (left-sound c left .tables)) (left-bounds c left) (turnedSet (c .selectable) n on)
+      codes-by c left u (changed-sound t n (withSelectable on) (selectable-same on) (left-sound c left .tables)) (left-bounds c left) (switchedSet (c .selectable) n on)
       (λ e h. ap₂ meets (registered-same e ∙ sym (set-is c left e (omega arith))) (sym selectable-turned))
 
   menu-differs : (not (Bool·beq (has? (c .selectable) n) on) && hasEnabledRow n (viewRows (c .rows))) ≡ menuChanges t u
@@ -91,7 +91,7 @@ module _ (c : Card) (left : Left c) (n : ℕ) (on : Bool) (there : present (view
       ∙ sym (lock-menu t (sound .numbers-apart) n on there)
 
 -- a set with a number that is in it, or without one that is not, is the same set
-already : (s n : ℕ) (on : Bool) → s < 256 → has? s n ≡ on → turnedSet s n on ≡ s
+already : (s n : ℕ) (on : Bool) → s < 256 → has? s n ≡ on → switchedSet s n on ≡ s
 already s n on small h = set-alike _ _ (λ k a b. go k (k == n) refl) ∙ sym (set-has s small)
   where
     go : (k : ℕ) (b : Bool) → (k == n) ≡ b → (if b then on else has? s k) ≡ has? s k
@@ -136,7 +136,7 @@ module _ (c : Card) (left : Left c) (n : ℕ) (on : Bool) {there : Bool} (found 
 
   module _
       {s : ℕ} {menu events x y : Bool}
-      (sets : s ≡ (if there then turnedSet (c .selectable) n on else c .selectable))
+      (sets : s ≡ (if there then switchedSet (c .selectable) n on else c .selectable))
       (mv : menu ≡ (there && (not (Bool·beq (has? (c .selectable) n) on) && hasEnabledRow n (viewRows (c .rows)))))
       (ev : events ≡ anyCode (codeTurns (c .registered) (c .selectable) s))
       (mx : x ≡ (c .desk .session && menu || c .desk .due .menu))
@@ -153,7 +153,7 @@ module _ (c : Card) (left : Left c) (n : ℕ) (on : Bool) {there : Bool} (found 
       when-there h =
           let z : r ≡ 0 = refused ∙ ap (λ (b : Bool). if not b then 2 else 0) h in
           let is-here : present (m .tables) n ≡ true = sym (found ∙ present-by c left n) ∙ h in
-          let own : s ≡ turnedSet (c .selectable) n on = sets ∙ ap (λ (b : Bool). if b then turnedSet (c .selectable) n on else c .selectable) h in
+          let own : s ≡ switchedSet (c .selectable) n on = sets ∙ ap (λ (b : Bool). if b then switchedSet (c .selectable) n on else c .selectable) h in
           let ls = m .tables .applets in
           rw (z, tables-are on)
           (next-card c left (withApplets (m .tables) (change (hasNumber n) (withSelectable on) ls))
@@ -170,7 +170,7 @@ module _ (c : Card) (left : Left c) (n : ℕ) (on : Bool) {there : Bool} (found 
       when-absent : there ≡ false → After (tablesBy m (admin (locking on n)) r)
       when-absent h =
           let z : r ≡ 2 = refused ∙ ap (λ (b : Bool). if not b then 2 else 0) h in
-          let own : s ≡ c .selectable = sets ∙ ap (λ (b : Bool). if b then turnedSet (c .selectable) n on else c .selectable) h in
+          let own : s ≡ c .selectable = sets ∙ ap (λ (b : Bool). if b then switchedSet (c .selectable) n on else c .selectable) h in
           rw z
           (next-card c left (m .tables) refl refl refl refl
           (own ∙ selectable-form c left) (registered-form c left) (control-form c left)
@@ -197,7 +197,7 @@ module _ (c : Card) (left : Left c) (n : ℕ) (on : Bool) {there : Bool} (found 
   pub lock-turned
       : {k : Card} {s : ℕ} {menu events x y : Bool} {a : Answer}
       → (there && not (Bool·beq (has? (c .selectable) n) on)) ≡ true
-      → s ≡ turnedSet (c .selectable) n on
+      → s ≡ switchedSet (c .selectable) n on
       → menu ≡ (there && (not (Bool·beq (has? (c .selectable) n) on) && hasEnabledRow n (viewRows (c .rows))))
       → events ≡ anyCode (codeTurns (c .registered) (c .selectable) s)
       → x ≡ (c .desk .session && menu || c .desk .due .menu)
@@ -208,7 +208,7 @@ module _ (c : Card) (left : Left c) (n : ℕ) (on : Bool) {there : Bool} (found 
   lock-turned {a = a} turns sets mv ev mx my is e =
       let here = and-left there (not (Bool·beq (has? (c .selectable) n) on)) turns in
       ap (λ (k : Card). record { card = k; answer = a }) is
-      ∙ turns-lock (sets ∙ sym (ap (λ (b : Bool). if b then turnedSet (c .selectable) n on else c .selectable) here)) mv ev mx my e
+      ∙ turns-lock (sets ∙ sym (ap (λ (b : Bool). if b then switchedSet (c .selectable) n on else c .selectable) here)) mv ev mx my e
 
   -- it does not: the applet is not there, or so already
   pub lock-still
@@ -229,7 +229,7 @@ module _ (c : Card) (left : Left c) (n : ℕ) (on : Bool) {there : Bool} (found 
       none true false h z = refl
       none false b h z = refl
 
-      kept : (t b : Bool) → Bool·beq (has? (c .selectable) n) on ≡ b → (t && not b) ≡ false → c .selectable ≡ (if t then turnedSet (c .selectable) n on else c .selectable)
+      kept : (t b : Bool) → Bool·beq (has? (c .selectable) n) on ≡ b → (t && not b) ≡ false → c .selectable ≡ (if t then switchedSet (c .selectable) n on else c .selectable)
       kept true true q z = sym (already (c .selectable) n on (small c left) (alike (has? (c .selectable) n) on q))
       kept true false q z = clashing refl z
       kept false b q z = refl

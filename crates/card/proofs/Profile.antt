@@ -23,7 +23,7 @@ use Rattle.rules.specs.Desk.{shownSome, withProfile}
 use Rattle.rules.specs.Refusals.{line, lowest, lines, arrivalLines, refusal}
 use Rattle.rules.specs.Step.{step, outcome, changed, tablesAfter, deskAfter, arrivalDesk, answer, arrivalAnswer}
 use Rattle.rules.proofs.DueMarks.{marked-same}
-use Rattle.menu_shown.specs.Asked.{hasShownRow}
+use Rattle.menu_shown.specs.Chosen.{hasShownRow}
 use Rattle.menu_shown.proofs.BySet.{menu-shown}
 use Rattle.events_shown.specs.Turns.{anyCode, isListened}
 use Rattle.events_shown.proofs.Shown.{codes-shown}

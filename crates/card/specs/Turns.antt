@@ -2,13 +2,13 @@
 use Prim.Native.Nat.{ℕ}
 use mathlib.Core.Bool.{Bool}
 use Rattle.lists.specs.Tests.{if_then_else_, _==_}
-use Rattle.sets.specs.Sets.{has?, turnedSet}
+use Rattle.sets.specs.Sets.{has?, switchedSet}
 use Rattle.rules.specs.Events.{callControl}
 use Rattle.rules.specs.Applets.{forget}
 
 -- the set after set event, which turns the registration on, or clear event; call control has its owner instead
 abbrev pub setAfter : (refusal place set number : ℕ) → Bool → ℕ
-setAfter r p s n on = if r == 0 then (if p == callControl then s else turnedSet s n on) else s
+setAfter r p s n on = if r == 0 then (if p == callControl then s else switchedSet s n on) else s
 
 abbrev pub ownerAfter : (refusal place owner number : ℕ) → Bool → ℕ
 ownerAfter r p o n on = if r == 0 then (if p == callControl then (if on then n else forget n o) else o) else o

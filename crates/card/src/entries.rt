@@ -71,12 +71,12 @@ impl Card {
         let there = sets::has(left.roll.present, applet);
         let shown = sets::has(left.selectable, applet);
         let rows = left.rows;
-        let turned = menu_entries::enabled(rows, applet, identifier, true);
-        let due = due_after(left.desk.session, left.desk.due.menu, shown & turned.turns);
-        let next = turned.rows;
+        let touched = menu_entries::enabled(rows, applet, identifier, true);
+        let due = due_after(left.desk.session, left.desk.due.menu, shown & touched.turns);
+        let next = touched.rows;
         left.rows = next;
         left.desk.due.menu = due;
-        let refusal = refusals::row_refusal(there, turned.its);
+        let refusal = refusals::row_refusal(there, touched.its);
         let answer = answers::of_refusal(refusal);
         Reply { card: left, answer }
     }
@@ -90,12 +90,12 @@ impl Card {
         let there = sets::has(left.roll.present, applet);
         let shown = sets::has(left.selectable, applet);
         let rows = left.rows;
-        let turned = menu_entries::enabled(rows, applet, identifier, false);
-        let due = due_after(left.desk.session, left.desk.due.menu, shown & turned.turns);
-        let next = turned.rows;
+        let touched = menu_entries::enabled(rows, applet, identifier, false);
+        let due = due_after(left.desk.session, left.desk.due.menu, shown & touched.turns);
+        let next = touched.rows;
         left.rows = next;
         left.desk.due.menu = due;
-        let refusal = refusals::row_refusal(there, turned.its);
+        let refusal = refusals::row_refusal(there, touched.its);
         let answer = answers::of_refusal(refusal);
         Reply { card: left, answer }
     }

@@ -19,7 +19,7 @@ impl Card {
         if refusal == 0 {
             let grant = admission::granted(request);
             let next = applets::roll_with(roll, applet, grant);
-            let selectable = sets::turned(left.selectable, applet, true);
+            let selectable = sets::switched(left.selectable, applet, true);
             left.roll = next;
             left.selectable = selectable;
         }

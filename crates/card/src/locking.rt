@@ -10,7 +10,7 @@ ghost use Rattle.lists.specs.Tests.{if_then_else_};
 ghost use Rattle.rules.specs.Held.{viewRows, TidyRows};
 ghost use Rattle.rules.specs.Calls.{admin, lock, unlock};
 ghost use Rattle.sets.specs.Sets.{has?};
-ghost use Rattle.menu_shown.specs.Asked.{hasEnabledRow};
+ghost use Rattle.menu_shown.specs.Chosen.{hasEnabledRow};
 ghost use Rattle.card.specs.View.{Left};
 ghost use Rattle.card.specs.Replies.{Replies};
 
@@ -25,7 +25,7 @@ pub fn absent_refusal(there: bool) -> u8
 }
 
 // Whether the lock turns: the applet is there, and not so already.
-fn lock_turns(there: bool, set: u8, applet: u8, on: bool) -> bool
+fn lock_switches(there: bool, set: u8, applet: u8, on: bool) -> bool
     ensures { λ r. ⌜ r ≡ (there && not (Bool·beq (has? set applet) on)) ⌝ }
 {
     if there {
@@ -59,9 +59,9 @@ impl Card {
         let mut left = self;
         let there = sets::has(left.roll.present, applet);
         let was = left.selectable;
-        let turns = lock_turns(there, was, applet, false);
+        let turns = lock_switches(there, was, applet, false);
         if turns {
-            let is = sets::turned(was, applet, false);
+            let is = sets::switched(was, applet, false);
             let rows = left.rows;
             let menu = menu_turns(there, was, applet, false, rows);
             let registered = left.registered;
@@ -85,9 +85,9 @@ impl Card {
         let mut left = self;
         let there = sets::has(left.roll.present, applet);
         let was = left.selectable;
-        let turns = lock_turns(there, was, applet, true);
+        let turns = lock_switches(there, was, applet, true);
         if turns {
-            let is = sets::turned(was, applet, true);
+            let is = sets::switched(was, applet, true);
             let rows = left.rows;
             let menu = menu_turns(there, was, applet, true, rows);
             let registered = left.registered;

@@ -18,7 +18,7 @@ fn set_after(refusal: u8, place: u8, set: u8, applet: u8, on: bool) -> u8
         if place == Kind::CALL_CONTROL {
             return set;
         }
-        return sets::turned(set, applet, on);
+        return sets::switched(set, applet, on);
     }
     set
 }
@@ -32,7 +32,7 @@ fn owner_after(refusal: u8, place: u8, owner: u8, applet: u8, on: bool) -> u8
             if on {
                 return applet;
             }
-            return timers::forgotten(owner, applet);
+            return applets::owner_without(owner, applet);
         }
         return owner;
     }

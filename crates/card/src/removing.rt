@@ -19,7 +19,7 @@ impl Card {
         let there = sets::has(left.roll.present, applet);
         if there {
             let was = left.selectable;
-            let is = sets::turned(was, applet, false);
+            let is = sets::switched(was, applet, false);
             let rows = left.rows;
             let registered = left.registered;
             let roll = left.roll;
@@ -33,7 +33,7 @@ impl Card {
             let next_registered = applets::unregistered(registered, applet);
             let next_made = applets::made_with(made, applet, 0);
             let next_bank = timers::freed(bank, applet);
-            let control = timers::forgotten(left.control, applet);
+            let control = applets::owner_without(left.control, applet);
             let next_rows = menu::without(rows, applet);
             left.roll = next_roll;
             left.selectable = is;

@@ -22,7 +22,7 @@ use Rattle.rules.specs.Holds.{Row}
 use Rattle.rules.specs.Held.{viewRow, storedRow, noRow, viewRows}
 use Rattle.rules.specs.Commands.{Item, itemBytes, itemsBytes}
 use Rattle.menu.proofs.Tidy.{blank, at-is, count-is, row-back}
-use Rattle.menu_shown.specs.Asked.{isShown}
+use Rattle.menu_shown.specs.Chosen.{isShown}
 use Rattle.commands.specs.Fits.{itemOf, itemsOf, rowsBytes, Short, Fits, shownOf}
 
 -- P holds at each place of the list

@@ -7,7 +7,7 @@ use Rattle.rules.specs.declared.Rows.{Rows}
 use Rattle.rules.specs.Holds.{Row}
 use Rattle.rules.specs.Held.{viewRows, TidyRows}
 use Rattle.rules.specs.Commands.{Item, itemBytes}
-use Rattle.menu_shown.specs.Asked.{isShown}
+use Rattle.menu_shown.specs.Chosen.{isShown}
 
 -- an item of the command for each row
 abbrev pub itemOf : Row → Item

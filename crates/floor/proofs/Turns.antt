@@ -9,7 +9,7 @@ use lib.ListN.{length}
 use Rattle.card.specs.declared.Card.{Card}
 use Rattle.card.specs.View.{view, stored, Left}
 use Rattle.card.proofs.Left.{left-form}
-use Rattle.floor_records.specs.declared.Run.{Run}
+use Rattle.floor_records.specs.declared.AfterPiece.{AfterPiece}
 use Rattle.floor_records.specs.Pieces.{ObeysAll}
 use Rattle.floor_records.proofs.PieceLaws.{card-none}
 use Rattle.floor.specs.Turned.{Turned}
@@ -19,6 +19,6 @@ turned-none card number more left =
     record { piece = []; few = omega arith; after = left-form card left ∙ sym (ap stored (card-none number (view card))); left = left; next = omega arith }
 
 pub turned-piece
-    : (card : Card) (number : ℕ) (more : Bool) {s b d : List ℕ} {run : Run} → length s ≤ 12288
+    : (card : Card) (number : ℕ) (more : Bool) {s b d : List ℕ} {run : AfterPiece} → length s ≤ 12288
     → ObeysAll number (view card) s b d run → Turned card number (record { card = run .card; number = run .number; more = more })
 turned-piece card number more {s} h o = record { piece = s; few = omega arith; after = o .card; left = o .left; next = o .next }

@@ -15,7 +15,7 @@ use Rattle.rules.specs.Floor.{stepLine}
 use Rattle.card.specs.declared.Card.{Card}
 use Rattle.card.specs.View.{view, stored, Left}
 use Rattle.card.proofs.Left.{left-form}
-use Rattle.floor_records.specs.Pieces.{recordsIn, linesOf, cardAfter, ObeysAll}
+use Rattle.floor_records.specs.Pieces.{recordsIn, linesOf, cardAfterPiece, ObeysAll}
 use Rattle.lists.proofs.WrittenParts.{wrote-within, wrote-part}
 use Rattle.floor_records.proofs.ObeyLaws.{Obeys}
 use Rattle.floor_records.proofs.Reached.{reached-by-card, reached-left, reached-seen, reached-again}
@@ -31,7 +31,7 @@ pub record Begun (k : ℕ) (m : Model) (s b : List ℕ) (i : ℕ) (card : Card) 
   pub counted : next ≡ k + i
   pub short : at ≤ 540 * i
   pub left : Left card
-  pub card-after : cardAfter next (view card) (drop (24 * i) s) ≡ cardAfter k m s
+  pub card-after : cardAfterPiece next (view card) (drop (24 * i) s) ≡ cardAfterPiece k m s
   pub front : List ℕ
   pub wrote : Wrote b 0 front c at
   pub lines : front ++ linesOf next (view card) (drop (24 * i) s) ≡ linesOf k m s
@@ -72,7 +72,7 @@ pub begun-all
     → length s ≤ 24 * i → Begun k m s b i card next at c → ObeysAll k m s b c (record { card = card; number = next; length = at })
 begun-all {s} {i} {card} {next} h g =
     let none : drop (24 * i) s ≡ [] = drop-of-length-le s h in
-    let card-is : view card ≡ cardAfter _ _ s = sym (ap (cardAfter next (view card)) none ∙ card-none next (view card)) ∙ g .card-after in
+    let card-is : view card ≡ cardAfterPiece _ _ s = sym (ap (cardAfterPiece next (view card)) none ∙ card-none next (view card)) ∙ g .card-after in
     let lines-are : g .front ≡ linesOf _ _ s = sym (append-nil (g .front)) ∙ sym (ap (λ l. g .front ++ l) (ap (linesOf next (view card)) none ∙ lines-none next (view card))) ∙ g .lines in
     record {
       card = left-form card (g .left) ∙ ap stored card-is;

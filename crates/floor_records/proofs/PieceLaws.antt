@@ -8,7 +8,7 @@ use lib.ListN.{length, take, drop, length-drop}
 use Rattle.lists.specs.Lists.{empty?}
 use Rattle.rules.specs.Holds.{Model}
 use Rattle.rules.specs.Floor.{stepLine, linesBy}
-use Rattle.floor_records.specs.Pieces.{cardBy, linesOf, cardAfter}
+use Rattle.floor_records.specs.Pieces.{cardBy, linesOf, cardAfterPiece}
 
 -- how many records there may be does not matter from as many as there are bytes on
 enough : (n j k : ℕ) (m : Model) (s : List ℕ) → length s ≤ n → length s ≤ j → (linesBy n k m s ≡ linesBy j k m s) × (cardBy n k m s ≡ cardBy j k m s)
@@ -31,8 +31,8 @@ module _ (k : ℕ) (m : Model) where
   unfolding linesOf linesBy
   lines-none = refl
 
-  pub card-none : cardAfter k m [] ≡ m
-  unfolding cardAfter cardBy
+  pub card-none : cardAfterPiece k m [] ≡ m
+  unfolding cardAfterPiece cardBy
   card-none = refl
 
   -- a record, then the rest
@@ -46,7 +46,7 @@ module _ (k : ℕ) (m : Model) where
   lines-first [] h = absurd (omega arith)
   lines-first (x ∷ s) h = ap (λ (l : List ℕ). stepLine k m (take 24 (x ∷ s)) .line ++ l) (rest-enough x s .0)
 
-  pub card-first : (s : List ℕ) → 0 < length s → cardAfter k m s ≡ cardAfter (suc k) (stepLine k m (take 24 s) .card) (drop 24 s)
-  unfolding cardAfter cardBy empty?
+  pub card-first : (s : List ℕ) → 0 < length s → cardAfterPiece k m s ≡ cardAfterPiece (suc k) (stepLine k m (take 24 s) .card) (drop 24 s)
+  unfolding cardAfterPiece cardBy empty?
   card-first [] h = absurd (omega arith)
   card-first (x ∷ s) h = rest-enough x s .1

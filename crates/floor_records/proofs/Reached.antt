@@ -15,7 +15,7 @@ use Rattle.rules.specs.Floor.{stepLine, obeyed, orderOf}
 use Rattle.card.specs.declared.Card.{Card}
 use Rattle.card.specs.View.{view, stored, Left}
 use Rattle.card.proofs.Left.{view-left}
-use Rattle.floor_records.specs.Pieces.{cardBy, cardAfter}
+use Rattle.floor_records.specs.Pieces.{cardBy, cardAfterPiece}
 
 pub record Reached (m : Model) : Type 0 where
   pub title : List ℕ
@@ -48,6 +48,6 @@ reached-all zero k s r = r
 reached-all (suc n) k [] r = r
 reached-all (suc n) k (x ∷ s) r = reached-all n (suc k) (drop 24 (x ∷ s)) (reached-again k (take 24 (x ∷ s)) r)
 
-pub reached-after : (k : ℕ) {m : Model} (s : List ℕ) → Reached m → Reached (cardAfter k m s)
-unfolding cardAfter
+pub reached-after : (k : ℕ) {m : Model} (s : List ℕ) → Reached m → Reached (cardAfterPiece k m s)
+unfolding cardAfterPiece
 reached-after k s r = reached-all (length s) k s r

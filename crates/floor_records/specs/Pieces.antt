@@ -9,7 +9,7 @@ use Rattle.lists.specs.Wrote.{Wrote}
 use Rattle.rules.specs.Holds.{Model}
 use Rattle.rules.specs.Floor.{stepLine, linesBy}
 use Rattle.card.specs.View.{stored, Left}
-use Rattle.floor_records.specs.declared.Run.{Run}
+use Rattle.floor_records.specs.declared.AfterPiece.{AfterPiece}
 
 -- how many records of 24 bytes there are; the last may be short
 abbrev pub recordsIn : List ℕ → ℕ
@@ -24,12 +24,12 @@ cardBy (suc n) k m s = if empty? s then m else cardBy n (suc k) (stepLine k m (t
 unfoldable pub linesOf : (number : ℕ) → Model → List ℕ → List ℕ
 linesOf k m s = linesBy (length s) k m s
 
-unfoldable pub cardAfter : (number : ℕ) → Model → List ℕ → Model
-cardAfter k m s = cardBy (length s) k m s
+unfoldable pub cardAfterPiece : (number : ℕ) → Model → List ℕ → Model
+cardAfterPiece k m s = cardBy (length s) k m s
 
 -- what a piece leaves: the card after it, the number of the next record, and its lines at the front of b, which is c afterwards
-pub record ObeysAll (k : ℕ) (m : Model) (s b c : List ℕ) (r : Run) : Type 0 where
-  pub card : r .card ≡ stored (cardAfter k m s)
+pub record ObeysAll (k : ℕ) (m : Model) (s b c : List ℕ) (r : AfterPiece) : Type 0 where
+  pub card : r .card ≡ stored (cardAfterPiece k m s)
   pub left : Left (r .card)
   pub next : r .number ≡ k + recordsIn s
   pub wrote : Wrote b 0 (linesOf k m s) c (r .length)

@@ -20,14 +20,14 @@ ghost use Rattle.card.specs.View.{view, Left};
 ghost use Rattle.floor_records.specs.Pieces.{recordsIn, ObeysAll};
 
 // What a piece leaves: the card, the number of the next record, and how many bytes its lines have.
-pub struct Run {
+pub struct AfterPiece {
     pub card: Card,
     pub number: u64,
     pub length: usize,
 }
 
 // Obeys the records of a piece of input, the first of which has this number, and writes their lines at the front of the buffer.
-pub fn obey_all(card: Card, number: u64, input: &[u8], out: &mut [u8]) -> Run
+pub fn obey_all(card: Card, number: u64, input: &[u8], out: &mut [u8]) -> AfterPiece
     requires { ⌜ Left card × (number + recordsIn (now input) < 2 ^ 64) × (540 * recordsIn (now input) ≤ length (now out)) ⌝ }
     ensures { λ r. ⌜ ObeysAll number (view card) (now (input .entry)) (now (out .entry)) (now (out .exit)) r ⌝ }
 {
@@ -60,7 +60,7 @@ pub fn obey_all(card: Card, number: u64, input: &[u8], out: &mut [u8]) -> Run
         next += 1;
         i += 1;
     }
-    Run {
+    AfterPiece {
         card: left,
         number: next,
         length: at,

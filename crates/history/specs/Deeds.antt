@@ -92,14 +92,14 @@ unfoldable pub unlocks : (applet : ℕ) → Entry → Bool
 unlocks n e = ofAdmin false (isUnlock n) (e .call)
 
 -- the priority that an install asks for
-unfoldable pub priorityAsked : AdminCall → ℕ
-priorityAsked (install m r) = r .priority
-priorityAsked (delete m) = 0
-priorityAsked (lock m) = 0
-priorityAsked (unlock m) = 0
+unfoldable pub priorityRequested : AdminCall → ℕ
+priorityRequested (install m r) = r .priority
+priorityRequested (delete m) = 0
+priorityRequested (lock m) = 0
+priorityRequested (unlock m) = 0
 
 unfoldable pub priorityIn : Entry → ℕ
-priorityIn e = ofAdmin 0 priorityAsked (e .call)
+priorityIn e = ofAdmin 0 priorityRequested (e .call)
 
 -- Registrations: applet n sets, or clears, the event with this place.
 unfoldable pub isEvent : (event : ℕ) → Kind → Bool

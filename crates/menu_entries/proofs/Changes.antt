@@ -20,9 +20,9 @@ use Rattle.rules.specs.Held.{viewRow, storedRow, noRow, viewRows, storedRows, T
 use Rattle.menu.specs.Table.{TidyRow}
 use Rattle.menu.proofs.Tidy.{blank, long, row-back, tidy-row, stands, at-is, count-is, index-viewed}
 use Rattle.menu.proofs.Searches.{within, held-index, held-first, held-at}
-use Rattle.menu_shown.specs.Asked.{turnsText, turnsEnabled}
+use Rattle.menu_shown.specs.Chosen.{turnsText, turnsEnabled}
 use Rattle.menu_shown.proofs.Answers.{enabled-turns}
-use Rattle.menu_entries.specs.declared.Turned.{Turned}
+use Rattle.menu_entries.specs.declared.Touched.{Touched}
 use Rattle.rules.specs.Rows.{itsRow}
 use Rattle.menu_entries.specs.ItsRow.{withWords, withMark, turnedBy, keptBy, rewordedBy, markedBy}
 
@@ -68,16 +68,16 @@ module _ (s : Rows) (n i k : ℕ) (t : TidyRows s) (is : k ≡ indexOf (itsRow n
   its-is = ap₂ _<?_ is (count-is s t) ∙ sym (some-is (itsRow n i) l)
 
   -- it came to the end: there is no such row
-  none-turned : (f : Row → Row) (turns : Row → Bool) → (k <? s .count) ≡ false → _≡_ {A = Turned} (record { rows = s; its = k <? s .count; turns = false }) (turnedBy (itsRow n i) f turns l)
+  none-turned : (f : Row → Row) (turns : Row → Bool) → (k <? s .count) ≡ false → _≡_ {A = Touched} (record { rows = s; its = k <? s .count; turns = false }) (turnedBy (itsRow n i) f turns l)
   unfolding turnedBy
   none-turned f turns e =
       rw (change-none (itsRow n i) f l (omega (arith, is, count-is s t, ltb-false k (s .count) e)), sym its-is ∙ e, e, ← t .form) refl
 
-  pub none-marked : (b : Bool) → (k <? s .count) ≡ false → _≡_ {A = Turned} (record { rows = s; its = k <? s .count; turns = false }) (markedBy n i b l)
+  pub none-marked : (b : Bool) → (k <? s .count) ≡ false → _≡_ {A = Touched} (record { rows = s; its = k <? s .count; turns = false }) (markedBy n i b l)
   unfolding markedBy
   none-marked b = none-turned (withMark b) (turnsEnabled b)
 
-  pub none-reworded : (fits help : Bool) (text : List ℕ) → ((k <? s .count) && fits) ≡ false → _≡_ {A = Turned} (record { rows = s; its = k <? s .count; turns = false }) (rewordedBy n i fits help text l)
+  pub none-reworded : (fits help : Bool) (text : List ℕ) → ((k <? s .count) && fits) ≡ false → _≡_ {A = Touched} (record { rows = s; its = k <? s .count; turns = false }) (rewordedBy n i fits help text l)
   unfolding rewordedBy keptBy
   none-reworded true help text e = none-turned (withWords help (take 15 text)) (turnsText help text) (sym (and-true (k <? s .count)) ∙ e)
   none-reworded false help text e = rw (its-is, ← t .form) refl
@@ -101,7 +101,7 @@ module _ (s : Rows) (n i k : ℕ) (t : TidyRows s) (is : k ≡ indexOf (itsRow n
         (changed-at 12 blank (isRow n i) (map storedRow l) (s .at) (at-is s t) k x g (held-index s (isRow n i) k t is h) (within s (isRow n i) k t is h) q ∙ ap (padded 12 blank) (sym (change-held n i f l)))
         c
 
-    one-turned : (f : Row → Row) (turns : Row → Bool) (x : held.Row) {b : Bool} → x ≡ storedRow (f own) → b ≡ turns own → _≡_ {A = Turned} (record { rows = record { at = set (s .at) k x; count = s .count }; its = k <? s .count; turns = b }) (turnedBy (itsRow n i) f turns l)
+    one-turned : (f : Row → Row) (turns : Row → Bool) (x : held.Row) {b : Bool} → x ≡ storedRow (f own) → b ≡ turns own → _≡_ {A = Touched} (record { rows = record { at = set (s .at) k x; count = s .count }; its = k <? s .count; turns = b }) (turnedBy (itsRow n i) f turns l)
     unfolding turnedBy
     one-turned f turns x g q = rw (changed-is f x g, sym its-is ∙ e, e, q) refl
 
@@ -115,13 +115,13 @@ module _ (s : Rows) (n i k : ℕ) (t : TidyRows s) (is : k ≡ indexOf (itsRow n
       old-own : viewRow old ≡ own
       old-own = ap viewRow (own-at d) ∙ row-back own
 
-      pub one-reworded : (fits help : Bool) (text : List ℕ) (x : held.Row) {b : Bool} → ((k <? s .count) && fits) ≡ true → x ≡ storedRow (withWords help (take 15 text) (viewRow old)) → b ≡ turnsText help text (viewRow old) → _≡_ {A = Turned} (record { rows = record { at = set (s .at) k x; count = s .count }; its = k <? s .count; turns = b }) (rewordedBy n i fits help text l)
+      pub one-reworded : (fits help : Bool) (text : List ℕ) (x : held.Row) {b : Bool} → ((k <? s .count) && fits) ≡ true → x ≡ storedRow (withWords help (take 15 text) (viewRow old)) → b ≡ turnsText help text (viewRow old) → _≡_ {A = Touched} (record { rows = record { at = set (s .at) k x; count = s .count }; its = k <? s .count; turns = b }) (rewordedBy n i fits help text l)
       unfolding rewordedBy
       one-reworded fits help text x z g q =
           rw (and-right (k <? s .count) fits z)
           (one-turned (withWords help (take 15 text)) (turnsText help text) x (g ∙ ap (λ (r : Row). storedRow (withWords help (take 15 text) r)) old-own)
           (q ∙ ap (turnsText help text) old-own))
 
-      pub one-marked : (b : Bool) → _≡_ {A = Turned} (record { rows = record { at = set (s .at) k (record { identifier = old .identifier; owner = old .owner; help = old .help; enabled = b; text = old .text; len = old .len }); count = s .count }; its = k <? s .count; turns = not (Bool·beq (old .enabled) b) }) (markedBy n i b l)
+      pub one-marked : (b : Bool) → _≡_ {A = Touched} (record { rows = record { at = set (s .at) k (record { identifier = old .identifier; owner = old .owner; help = old .help; enabled = b; text = old .text; len = old .len }); count = s .count }; its = k <? s .count; turns = not (Bool·beq (old .enabled) b) }) (markedBy n i b l)
       unfolding markedBy
       one-marked b = one-turned (withMark b) (turnsEnabled b) _ (new-mark own (own-at d)) (enabled-turns _ own (own-at d) b)

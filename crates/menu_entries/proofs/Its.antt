@@ -14,7 +14,7 @@ use Rattle.rules.specs.Rows.{itsRow, notItsRow, withText, withEnabled}
 use Rattle.rules.specs.Held.{noRow, storedRows}
 use Rattle.runs.proofs.Looked.{its-first}
 use Rattle.menu.specs.Table.{rowWith, IdentifiersApart}
-use Rattle.menu_shown.specs.Asked.{turnsText, turnsEnabled}
+use Rattle.menu_shown.specs.Chosen.{turnsText, turnsEnabled}
 use Rattle.menu_entries.specs.ItsRow.{withWords, withMark, turnedBy, keptBy, rewordedBy, markedBy}
 
 module _ (rows : List Row) (n i : ℕ) where

@@ -10,9 +10,9 @@ use Rattle.rules.specs.Holds.{Row, document}
 use Rattle.rules.specs.Rows.{identifierFor, itsRow}
 use Rattle.rules.specs.Held.{noRow, storedRows}
 use Rattle.menu.specs.Table.{newRow, withRow}
-use Rattle.menu_shown.specs.Asked.{turnsText, turnsEnabled}
+use Rattle.menu_shown.specs.Chosen.{turnsText, turnsEnabled}
 use Rattle.menu_entries.specs.declared.Added.{Added}
-use Rattle.menu_entries.specs.declared.Turned.{Turned}
+use Rattle.menu_entries.specs.declared.Touched.{Touched}
 
 -- a new entry: the rows with its row at the requested position, unless they are full, and the row's identifier
 unfoldable pub enteredBy : Pair → (owner : ℕ) (help : Bool) (text : List ℕ) → List Row → Added
@@ -30,17 +30,17 @@ abbrev pub withMark : (enabled : Bool) → Row → Row
 withMark b r = record { identifier = r .identifier; owner = r .owner; text = r .text; help = r .help; enabled = b }
 
 -- a call that changes the first row that passes: the rows afterwards, whether there is one, and whether it turns
-unfoldable pub turnedBy : (passes : Row → Bool) → (Row → Row) → (turns : Row → Bool) → List Row → Turned
+unfoldable pub turnedBy : (passes : Row → Bool) → (Row → Row) → (turns : Row → Bool) → List Row → Touched
 turnedBy p f t rows = record { rows = storedRows (change p f rows); its = some? p rows; turns = some? p rows && t (first p noRow rows) }
 
 -- a call that changes none
-unfoldable pub keptBy : (passes : Row → Bool) → List Row → Turned
+unfoldable pub keptBy : (passes : Row → Bool) → List Row → Touched
 keptBy p rows = record { rows = storedRows rows; its = some? p rows; turns = false }
 
 -- the applet's row with a help mark and the first 15 bytes of a text; as it was where the text does not fit
-unfoldable pub rewordedBy : (applet identifier : ℕ) (fits help : Bool) (text : List ℕ) → List Row → Turned
+unfoldable pub rewordedBy : (applet identifier : ℕ) (fits help : Bool) (text : List ℕ) → List Row → Touched
 rewordedBy n i fits help text rows = if fits then turnedBy (itsRow n i) (withWords help (take (document .text) text)) (turnsText help text) rows else keptBy (itsRow n i) rows
 
 -- the applet's row enabled, or disabled
-unfoldable pub markedBy : (applet identifier : ℕ) (enabled : Bool) → List Row → Turned
+unfoldable pub markedBy : (applet identifier : ℕ) (enabled : Bool) → List Row → Touched
 markedBy n i b rows = turnedBy (itsRow n i) (withMark b) (turnsEnabled b) rows

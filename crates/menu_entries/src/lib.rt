@@ -14,7 +14,7 @@ ghost use Rattle.menu.specs.Table.{newRow};
 ghost use Rattle.menu_entries.specs.ItsRow.{withWords, enteredBy, rewordedBy, markedBy};
 
 // What a call about an applet's row leaves: the rows, whether there is such a row, and whether what is shown of it turns.
-pub struct Turned {
+pub struct Touched {
     pub rows: Rows,
     pub its: bool,
     pub turns: bool,
@@ -130,7 +130,7 @@ fn is_row(row: Row, applet: u8, identifier: u8) -> bool
 }
 
 // The applet's row with an identifier enabled, or disabled.
-pub fn enabled(rows: Rows, applet: u8, identifier: u8, on: bool) -> Turned
+pub fn enabled(rows: Rows, applet: u8, identifier: u8, on: bool) -> Touched
     requires { ⌜ TidyRows rows ⌝ }
     ensures { λ r. ⌜ r ≡ markedBy applet identifier on (viewRows rows) ⌝ }
 {
@@ -156,7 +156,7 @@ pub fn enabled(rows: Rows, applet: u8, identifier: u8, on: bool) -> Turned
         at,
         count: rows.count,
     };
-    Turned {
+    Touched {
         rows: next,
         its,
         turns,
@@ -171,7 +171,7 @@ pub fn changed(
     fits: bool,
     help: bool,
     text: &[u8],
-) -> Turned
+) -> Touched
     requires { ⌜ TidyRows rows ⌝ }
     ensures { λ r. ⌜ r ≡ rewordedBy applet identifier fits help (now (text .entry)) (viewRows rows) ⌝ }
 {
@@ -197,7 +197,7 @@ pub fn changed(
         at,
         count: rows.count,
     };
-    Turned {
+    Touched {
         rows: next,
         its,
         turns,

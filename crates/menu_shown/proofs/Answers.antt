@@ -19,25 +19,25 @@ use Rattle.rules.specs.Holds.{Row}
 use Rattle.rules.specs.Held.{viewRow, storedRow, viewRows, noRow, TidyRows}
 use Rattle.menu.specs.Table.{TidyRow}
 use Rattle.menu.proofs.Tidy.{blank, row-back, text-within, held-is, some-viewed}
-use Rattle.menu_shown.specs.Asked.{askedOwner, isEnabledOf, hasEnabledRow, isShown, hasShownRow, turnsText, turnsEnabled}
+use Rattle.menu_shown.specs.Chosen.{chosenOwner, isEnabledOf, hasEnabledRow, isShown, hasShownRow, turnsText, turnsEnabled}
 
 abbrev pub askedAt : (identifier : ℕ) (help : Bool) → held.Row → Bool
 askedAt i help x = x .identifier == i && x .enabled && (x .help || not help)
 
 -- where a search for a row that is asked for ends: at the row, or behind the rows
 module _ (s : Rows) (t : TidyRows s) (i : ℕ) (help : Bool) {k : ℕ} (at-k : indexOf (askedAt i help) (take (s .count) (s .at)) ≡ k) where
-  asked-at : getD (take (s .count) (s .at)) k blank .owner ≡ askedOwner i help (viewRows s)
-  unfolding storedRow askedOwner
+  asked-at : getD (take (s .count) (s .at)) k blank .owner ≡ chosenOwner i help (viewRows s)
+  unfolding storedRow chosenOwner
   asked-at =
       ap (λ (k : ℕ). getD (take (s .count) (s .at)) k blank .owner) (sym at-k)
       ∙ ap (λ (x : held.Row). x .owner) (sym (first-is (askedAt i help) (take (s .count) (s .at)) blank))
       ∙ ap (λ (l : List held.Row). first (askedAt i help) blank l .owner) (held-is s t)
       ∙ sym (ap (λ (x : held.Row). x .owner) (map-first storedRow (askedAt i help) noRow (viewRows s)))
 
-  pub asked-here : (d : held.Row) → k < s .count → k < length (s .at) → getD (s .at) k d .owner ≡ askedOwner i help (viewRows s)
+  pub asked-here : (d : held.Row) → k < s .count → k < length (s .at) → getD (s .at) k d .owner ≡ chosenOwner i help (viewRows s)
   asked-here d h to = ap (λ (x : held.Row). x .owner) (getD-any (s .at) k d blank to ∙ sym (getD-take (s .count) (s .at) k blank h)) ∙ asked-at
 
-  pub asked-nowhere : s .count ≤ k → s .count ≤ length (s .at) → 0 ≡ askedOwner i help (viewRows s)
+  pub asked-nowhere : s .count ≤ k → s .count ≤ length (s .at) → 0 ≡ chosenOwner i help (viewRows s)
   unfolding storedRow
   asked-nowhere h to = ap (λ (x : held.Row). x .owner) (sym (List·getD-eq-default (take (s .count) (s .at)) blank (rw (length-take-le (s .count) (s .at) to) h))) ∙ asked-at
 

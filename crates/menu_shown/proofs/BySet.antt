@@ -17,7 +17,7 @@ use Rattle.rules.specs.Commands.{selectable, shownMenu}
 use Rattle.runs.specs.Sound.{SoundTables}
 use Rattle.runs.proofs.Looked.{absent-nobody, number-from, number-to}
 use Rattle.applets.specs.ByNumber.{at, selectableSet}
-use Rattle.menu_shown.specs.Asked.{isShown, hasShownRow}
+use Rattle.menu_shown.specs.Chosen.{isShown, hasShownRow}
 use Rattle.menu_shown.proofs.MenuByApplets.{selectable-is}
 
 -- WHO IS SELECTABLE, by the set

@@ -27,7 +27,7 @@ use Rattle.rules.specs.Calls.{install, delete, newEntry}
 use Rattle.rules.specs.Step.{adminTables, entryTables}
 use Rattle.rules.specs.Desk.{menuChanges}
 use Rattle.menu.specs.Table.{newRow}
-use Rattle.menu_shown.specs.Asked.{isEnabledOf, hasEnabledRow}
+use Rattle.menu_shown.specs.Chosen.{isEnabledOf, hasEnabledRow}
 use Rattle.menu_shown.proofs.MenuByRows.{differ, same-rows, differ-insert, differ-more, differ-less}
 
 abbrev pub NumbersApart : Tables → Type 0

@@ -16,7 +16,7 @@ use Rattle.rules.specs.Commands.{selectable, shownMenu}
 use Rattle.rules.specs.Desk.{sameRow?, menuChanges}
 use Rattle.rules.specs.Held.{noRow}
 use Rattle.rules.proofs.DueMarks.{row-self}
-use Rattle.menu_shown.specs.Asked.{turnsText, turnsEnabled}
+use Rattle.menu_shown.specs.Chosen.{turnsText, turnsEnabled}
 
 -- the lists of rows are not the same
 abbrev pub differ : List Row → List Row → Bool

@@ -16,20 +16,20 @@ use Rattle.rules.specs.Rows.{hasIdentifier}
 use Rattle.rules.specs.Arrivals.{wants, choice, help}
 use Rattle.rules.specs.Held.{noRow}
 use Rattle.menu.specs.Table.{IdentifiersApart}
-use Rattle.menu_shown.specs.Asked.{isAsked, askedOwner}
+use Rattle.menu_shown.specs.Chosen.{isChosen, chosenOwner}
 
 -- one row at most is asked for, and its owner is called
 module _ (i : ℕ) (h : Bool) (rows : List Row) (apart : IdentifiersApart rows) where
-  one-asked : count (isAsked i h) rows ≤ 1
+  one-asked : count (isChosen i h) rows ≤ 1
   one-asked =
-      let within = count-within (isAsked i h) (hasIdentifier i) (λ r e. and-left (r .identifier == i) (r .enabled) (and-left (r .identifier == i && r .enabled) (r .help || not h) e)) rows in
+      let within = count-within (isChosen i h) (hasIdentifier i) (λ r e. and-left (r .identifier == i) (r .enabled) (and-left (r .identifier == i && r .enabled) (r .help || not h) e)) rows in
       omega (arith, apart i)
 
-  owner-called : (n : ℕ) → 1 ≤ n → some? (λ (r : Row). isAsked i h r && r .owner == n) rows ≡ (askedOwner i h rows == n)
-  unfolding askedOwner
-  owner-called n from = some-first (isAsked i h) (λ (r : Row). r .owner == n) rows noRow one-asked (ne-eqb 0 n (λ z. omega arith))
+  owner-called : (n : ℕ) → 1 ≤ n → some? (λ (r : Row). isChosen i h r && r .owner == n) rows ≡ (chosenOwner i h rows == n)
+  unfolding chosenOwner
+  owner-called n from = some-first (isChosen i h) (λ (r : Row). r .owner == n) rows noRow one-asked (ne-eqb 0 n (λ z. omega arith))
 
-pub choice-calls : (t : Tables) (i : ℕ) (x : Applet) → IdentifiersApart (t .rows) → 1 ≤ x .number → wants t (choice i) x ≡ (askedOwner i false (t .rows) == x .number)
+pub choice-calls : (t : Tables) (i : ℕ) (x : Applet) → IdentifiersApart (t .rows) → 1 ≤ x .number → wants t (choice i) x ≡ (chosenOwner i false (t .rows) == x .number)
 unfolding wants
 choice-calls t i x apart from =
     some-alike _ _ (t .rows) (λ (r : Row). counts (r .identifier == i) (r .owner == x .number) (r .enabled) (r .help))
@@ -39,7 +39,7 @@ choice-calls t i x apart from =
     counts true o e h = rw (or-true h, and-true e) (and-swap o e)
     counts false o e h = refl
 
-pub help-calls : (t : Tables) (i : ℕ) (x : Applet) → IdentifiersApart (t .rows) → 1 ≤ x .number → wants t (help i) x ≡ (askedOwner i true (t .rows) == x .number)
+pub help-calls : (t : Tables) (i : ℕ) (x : Applet) → IdentifiersApart (t .rows) → 1 ≤ x .number → wants t (help i) x ≡ (chosenOwner i true (t .rows) == x .number)
 unfolding wants
 help-calls t i x apart from =
     some-alike _ _ (t .rows) (λ (r : Row). counts (r .identifier == i) (r .owner == x .number) (r .enabled) (r .help))

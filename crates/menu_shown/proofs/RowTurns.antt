@@ -14,7 +14,7 @@ use Rattle.rules.specs.Desk.{menuChanges}
 use Rattle.runs.specs.Sound.{SoundTables}
 use Rattle.runs.proofs.Looked.{its-row, its-first}
 use Rattle.menu.specs.Table.{rowWith}
-use Rattle.menu_shown.specs.Asked.{turnsText, turnsEnabled}
+use Rattle.menu_shown.specs.Chosen.{turnsText, turnsEnabled}
 use Rattle.menu_shown.proofs.MenuByRows.{text-menu, enabled-menu}
 use Rattle.menu_shown.proofs.MenuByApplets.{selectable-is}
 

@@ -8,10 +8,10 @@ ghost use Rattle.lists.specs.Tests.{_==_};
 ghost use Rattle.lists.specs.Lists.{same?};
 ghost use Rattle.rules.specs.Held.{viewRow, viewRows, TidyRows};
 ghost use Rattle.menu.specs.Table.{TidyRow};
-ghost use Rattle.menu_shown.specs.Asked.{askedOwner, hasEnabledRow, isShown, hasShownRow, turnsText};
+ghost use Rattle.menu_shown.specs.Chosen.{chosenOwner, hasEnabledRow, isShown, hasShownRow, turnsText};
 
 // A choice counts for the row: it has the identifier, it is enabled, and where help is asked for it offers help.
-fn is_asked(row: Row, identifier: u8, help: bool) -> bool
+fn is_chosen(row: Row, identifier: u8, help: bool) -> bool
     ensures { λ r. ⌜ r ≡ (row .identifier == identifier && row .enabled && (row .help || not help)) ⌝ }
 {
     if row.identifier == identifier {
@@ -22,15 +22,15 @@ fn is_asked(row: Row, identifier: u8, help: bool) -> bool
 }
 
 // The applet that a menu choice is for, or a request for help: the owner of the row for which it counts; 0 where there is none.
-pub fn asked_owner(rows: Rows, identifier: u8, help: bool) -> u8
+pub fn chosen_owner(rows: Rows, identifier: u8, help: bool) -> u8
     requires { ⌜ TidyRows rows ⌝ }
-    ensures { λ r. ⌜ r ≡ askedOwner identifier help (viewRows rows) ⌝ }
+    ensures { λ r. ⌜ r ≡ chosenOwner identifier help (viewRows rows) ⌝ }
 {
     let n = rows.count as usize;
     let mut i = 0;
     while i < n {
         let row = rows.at[i];
-        let is = is_asked(row, identifier, help);
+        let is = is_chosen(row, identifier, help);
         if is {
             return row.owner;
         }

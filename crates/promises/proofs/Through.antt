@@ -18,8 +18,8 @@ use Rattle.card.specs.Replies.{replied, freshReply}
 use Rattle.history.specs.Handed.{Seen}
 use Rattle.toolkit.specs.declared.Made.{Made}
 use Rattle.toolkit.specs.Beside.{madeOf}
-use Rattle.floor_records.specs.declared.Run.{Run}
-use Rattle.floor_records.specs.Pieces.{cardBy, cardAfter as leftByPiece, ObeysAll}
+use Rattle.floor_records.specs.declared.AfterPiece.{AfterPiece}
+use Rattle.floor_records.specs.Pieces.{cardBy, cardAfterPiece, ObeysAll}
 use Rattle.promises.specs.Watched.{callsOf, call, Watched, made, more}
 use Rattle.promises.specs.Doors.{Doored, withOrder, withRecords, WatchedBy}
 use Rattle.promises.specs.Doors as doors
@@ -98,8 +98,8 @@ module _ (title : List ℕ) where
   by-records (suc n) k s w = first-record n k s w (λ l′ c′ w′. by-records n (suc k) (drop 24 s) w′)
 
 -- A PIECE OBEYED leaves a card that the public functions have left, by the calls that its records make on top of those before; `ObeysAll` is the contract of `obey_all`
-pub piece-is-watched : {title : List ℕ} {l : List Seen} {c : Card} {k : ℕ} (s : List ℕ) {b d : List ℕ} {r : Run}
+pub piece-is-watched : {title : List ℕ} {l : List Seen} {c : Card} {k : ℕ} (s : List ℕ) {b d : List ℕ} {r : AfterPiece}
     → Watched title l c → ObeysAll k (view c) s b d r → WatchedBy title (withRecords (length s) s (callsOf l)) (r .card)
-unfolding leftByPiece
+unfolding cardAfterPiece
 piece-is-watched {title} {l} {c} {k} s w o =
     subst (WatchedBy title (withRecords (length s) s (callsOf l))) (sym (o .card ∙ ap (λ (m : Model). stored (cardBy (length s) k m s)) (same-view (watched-same w)))) (by-records title (length s) k s w)

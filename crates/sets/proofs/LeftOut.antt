@@ -5,7 +5,7 @@ use mathlib.Core.Path.{_≡_, refl, sym, ap, ap₂, _∙_}
 use mathlib.Core.Bool.{Bool, true, false, not, _&&_}
 use Rattle.lists.specs.Tests.{if_then_else_, _==_}
 use Rattle.lists.proofs.Decided.{turned}
-use Rattle.sets.specs.Sets.{has?, single, meets, setWithout, turnedSet}
+use Rattle.sets.specs.Sets.{has?, single, meets, setWithout, switchedSet}
 use Rattle.sets.proofs.Bits.{has-set, set-alike, some-each}
 
 pub single-has : (n k : ℕ) → 1 ≤ k → k ≤ 8 → has? (single n) k ≡ (n == k)
@@ -13,7 +13,7 @@ unfolding single
 single-has n k a b = has-set (λ j. j == n) k a b ∙ turned k n
 
 -- a set with a number turned off is the set without it
-pub turned-without : (s n : ℕ) → turnedSet s n false ≡ setWithout s (single n)
+pub turned-without : (s n : ℕ) → switchedSet s n false ≡ setWithout s (single n)
 turned-without s n = set-alike _ _ (λ k a b. go (has? s k) (k == n) ∙ ap (λ (o : Bool). has? s k && not o) (turned k n ∙ sym (single-has n k a b)))
   where
     go : (x o : Bool) → (if o then false else x) ≡ (x && not o)

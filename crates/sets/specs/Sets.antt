@@ -46,5 +46,5 @@ abbrev pub setWithout : (a b : ℕ) → ℕ
 setWithout a b = setOf (λ k. has? a k && not (has? b k))
 
 -- the set with the number, or without it
-abbrev pub turnedSet : (set number : ℕ) → Bool → ℕ
-turnedSet s n on = setOf (λ k. if k == n then on else has? s k)
+abbrev pub switchedSet : (set number : ℕ) → Bool → ℕ
+switchedSet s n on = setOf (λ k. if k == n then on else has? s k)

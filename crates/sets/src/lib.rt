@@ -1,7 +1,7 @@
 // Sets of applet numbers as the bits of a byte: number n is bit n - 1.
 // What each answer means stands in specs/Sets.antt.
 ghost use mathlib.Core.Path.{_≡_};
-ghost use Rattle.sets.specs.Sets.{isNumber, has?, single, setBoth, meets, setWithout, turnedSet};
+ghost use Rattle.sets.specs.Sets.{isNumber, has?, single, setBoth, meets, setWithout, switchedSet};
 
 // Whether a number is one of 1 to 8.
 fn is_number(n: u8) -> bool
@@ -52,8 +52,8 @@ pub fn without(a: u8, b: u8) -> u8
 }
 
 // The set with the number, or without it.
-pub fn turned(set: u8, n: u8, on: bool) -> u8
-    ensures { λ r. ⌜ r ≡ turnedSet set n on ⌝ }
+pub fn switched(set: u8, n: u8, on: bool) -> u8
+    ensures { λ r. ⌜ r ≡ switchedSet set n on ⌝ }
 {
     let own = bit(n);
     if on {

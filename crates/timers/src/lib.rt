@@ -2,7 +2,6 @@
 // What each answer means stands in `rules`, specs/Timers.antt and specs/Beside.antt.
 ghost use mathlib.Core.Path.{_≡_};
 ghost use Prim.Native.Nat.{min};
-ghost use Rattle.rules.specs.Applets.{forget};
 ghost use Rattle.rules.specs.Timers.{lowestFree, atLimit, ownerOf, withoutTimers};
 ghost use Rattle.rules.specs.Calls.{refusedWith};
 ghost use Rattle.rules.specs.Held.{storedAnswer};
@@ -135,13 +134,6 @@ pub fn release(bank: Bank, applet: u8, timer: u8) -> BankReply
     BankReply { bank: next, answer }
 }
 
-// What is left of an owner once an applet owns nothing.
-pub fn forgotten(owner: u8, applet: u8) -> u8
-    ensures { λ r. ⌜ r ≡ forget applet owner ⌝ }
-{
-    if owner == applet { 0 } else { owner }
-}
-
 // Frees all timers of an applet.
 pub fn freed(bank: Bank, applet: u8) -> Bank
     ensures { λ r. ⌜ r .owner ≡ withoutTimers applet (bank .owner) ⌝ }
@@ -149,7 +141,7 @@ pub fn freed(bank: Bank, applet: u8) -> Bank
     let mut owner = bank.owner;
     let mut i = 0;
     while i < Bank::TIMERS {
-        owner[i] = forgotten(owner[i], applet);
+        owner[i] = applets::owner_without(owner[i], applet);
         i += 1;
     }
     Bank { owner }

@@ -5,14 +5,14 @@ use mathlib.Core.Path.{_≡_, refl}
 use native.Mathlib.Omega.{arith}
 use lib.ListN.{length}
 use Rattle.lists.specs.Lists.{some?}
-use Rattle.admission.specs.Refuses.{hasAsked}
+use Rattle.admission.specs.Refuses.{hasRequested}
 use Rattle.lists.proofs.Scan.{Telling, telling-more, telling-all}
 use borrow.Author.Needs.{needs}
 use Rattle.admission.proofs.is_taken.Statement.{statement}
 use Rattle.admission.proofs.is_taken.Tie as tie
 
 abbrev Inv-loop : tie.InvT-loop
-Inv-loop identifier grants any₀ i₀ any i = Telling (hasAsked identifier) grants (some? (hasAsked identifier) grants) any i
+Inv-loop identifier grants any₀ i₀ any i = Telling (hasRequested identifier) grants (some? (hasRequested identifier) grants) any i
 
 abbrev μ-loop : tie.MeasureT-loop
 μ-loop identifier grants any₀ i₀ any i = 8 - i
@@ -40,14 +40,14 @@ loop-again c =
     let b = c .before .before .before .before in
     let a = b .before .args in
     let l : length (a .t1) ≡ 8 = b .before .good .0 .1 .0 .1 in
-    telling-more (hasAsked (a .identifier)) (a .t1) (b .loop .i) _ (omega arith) (c .asks .ensures) (b .loop .inv)
+    telling-more (hasRequested (a .identifier)) (a .t1) (b .loop .i) _ (omega arith) (c .asks .ensures) (b .loop .inv)
 
 returns : tie.Need-returns Inv-loop μ-loop
 returns c =
     let b = c .before in
     let a = b .before .args in
     let l : length (a .t1) ≡ 8 = b .before .good .0 .1 .0 .1 in
-    telling-all (hasAsked (a .identifier)) (a .t1) (b .loop .i) (omega arith) (b .loop .inv)
+    telling-all (hasRequested (a .identifier)) (a .t1) (b .loop .i) (omega arith) (b .loop .inv)
 
 pub is-taken-spec : {M : Type 1} → statement M
 is-taken-spec =

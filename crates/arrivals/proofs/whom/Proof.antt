@@ -9,8 +9,8 @@ use Rattle.arrivals.proofs.whom.Tie as tie
 enum-known-e : tie.Need-enum-known-e
 enum-known-e c = search needs
 
-asked-owner-requires : tie.Need-asked-owner-requires
-asked-owner-requires c κs = search needs
+chosen-owner-requires : tie.Need-chosen-owner-requires
+chosen-owner-requires c κs = search needs
 
 bit-requires : tie.Need-bit-requires
 bit-requires c κs = search needs
@@ -48,7 +48,7 @@ enum-told-3 c = search needs
 returns : tie.Need-returns
 returns c t sound p q o k =
     let i = c .before in
-    envelope-as t (i .before .before .e .given .1) (item-for t sound p _ _ (i .asked-owner .ensures) (c .bit .ensures))
+    envelope-as t (i .before .before .e .given .1) (item-for t sound p _ _ (i .chosen-owner .ensures) (c .bit .ensures))
 
 returns-2 : tie.Need-returns-2
 returns-2 c t sound p q o k = envelope-as t (c .before .enum-told .given .1) (control-for t k (c .bit2 .ensures))
@@ -73,7 +73,7 @@ whom-spec =
     tie.close
     (tie.spec
     enum-known-e
-    asked-owner-requires
+    chosen-owner-requires
     bit-requires
     enum-told
     bit-requires-2

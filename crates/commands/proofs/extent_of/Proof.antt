@@ -9,7 +9,7 @@ use Rattle.lists.specs.Lists.{some?}
 use Rattle.rules.specs.Holds.{Row}
 use Rattle.rules.specs.Held.{viewRows}
 use Rattle.menu.proofs.Tidy.{long}
-use Rattle.menu_shown.specs.Asked.{isShown}
+use Rattle.menu_shown.specs.Chosen.{isShown}
 use Rattle.commands.specs.Fits.{rowsBytes, Fits}
 use Rattle.commands.proofs.Lines.{len-at, rows-under, rows-part, rows-whole, Measured, measured-none, measured-yes, measured-no}
 use borrow.Author.Needs.{needs}

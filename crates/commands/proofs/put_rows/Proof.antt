@@ -9,7 +9,7 @@ use Rattle.lists.specs.Wrote.{Wrote}
 use Rattle.lists.proofs.Writing.{wrote-none, wrote-then}
 use Rattle.rules.specs.Held.{viewRows}
 use Rattle.menu.proofs.Tidy.{long}
-use Rattle.menu_shown.specs.Asked.{isShown}
+use Rattle.menu_shown.specs.Chosen.{isShown}
 use Rattle.commands.specs.Fits.{rowsBytes}
 use Rattle.commands.proofs.Lines.{len-at, text-at, text-length, rows-next, rows-same, rows-step, rows-part, rows-whole}
 use borrow.Author.Needs.{needs}

@@ -21,11 +21,11 @@ abbrev μ-loop : tie.MeasureT-loop
 loop-holds : tie.Need-loop-holds Inv-loop μ-loop
 loop-holds c = (omega arith, owners-length (c .before .args .bank .owner) (c .before .good .0 .1 .1 .0 .1 .0 .1), refl)
 
-array-read-forgotten : tie.Need-array-read-forgotten Inv-loop μ-loop
-array-read-forgotten c = omega arith
+array-read-owner-without : tie.Need-array-read-owner-without Inv-loop μ-loop
+array-read-owner-without c = omega arith
 
-forgotten-requires : tie.Need-forgotten-requires Inv-loop μ-loop
-forgotten-requires c κs = search needs
+owner-without-requires : tie.Need-owner-without-requires Inv-loop μ-loop
+owner-without-requires c κs = search needs
 
 array-write-owner : tie.Need-array-write-owner Inv-loop μ-loop
 array-write-owner c = omega arith
@@ -39,7 +39,7 @@ loop-less c = omega arith
 loop-again : tie.Need-loop-again Inv-loop μ-loop
 loop-again c =
     let inv = c .before .before .loop .inv in
-    (omega arith, inv .1, mapped-more (forget _) _ _ _ 0 _ (omega arith) (inv .2) (c .forgotten .ensures))
+    (omega arith, inv .1, mapped-more (forget _) _ _ _ 0 _ (omega arith) (inv .2) (c .owner-without .ensures))
 
 returns : tie.Need-returns Inv-loop μ-loop
 unfolding withoutTimers
@@ -54,8 +54,8 @@ freed-spec =
     Inv-loop
     μ-loop
     loop-holds
-    array-read-forgotten
-    forgotten-requires
+    array-read-owner-without
+    owner-without-requires
     array-write-owner
     add-i
     loop-less

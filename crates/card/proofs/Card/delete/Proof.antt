@@ -21,15 +21,15 @@ use Rattle.card.proofs.locking.menu_turns.Reads as menu-turns-reads
 use Rattle.events_shown.proofs.codes_turn.Reads as codes-turn-reads
 use Rattle.menu.proofs.without.Reads as without-reads
 use Rattle.sets.proofs.has.Reads as has-reads
-use Rattle.sets.proofs.turned.Reads as turned-reads
-use Rattle.timers.proofs.forgotten.Reads as forgotten-reads
+use Rattle.sets.proofs.switched.Reads as switched-reads
+use Rattle.applets.proofs.owner_without.Reads as owner-without-reads
 use Rattle.timers.proofs.freed.Reads as freed-reads
 
 has-requires : tie.Need-has-requires
 has-requires c κs = search needs
 
-turned-requires : tie.Need-turned-requires
-turned-requires c κs = search needs
+switched-requires : tie.Need-switched-requires
+switched-requires c κs = search needs
 
 menu-turns-requires : tie.Need-menu-turns-requires
 menu-turns-requires c κs = tidy-rows _ (c .before .before .before .before .before .before .before .before .pre)
@@ -59,8 +59,8 @@ made-with-requires c κs = search needs
 freed-requires : tie.Need-freed-requires
 freed-requires c κs = search needs
 
-forgotten-requires : tie.Need-forgotten-requires
-forgotten-requires c κs = search needs
+owner-without-requires : tie.Need-owner-without-requires
+owner-without-requires c κs = search needs
 
 without-requires : tie.Need-without-requires
 without-requires c κs = tidy-rows _ (c .before .before .before .before .before .before .before .before .before .before .before .before .before .before .before .before .before .pre)
@@ -91,7 +91,7 @@ delete-spec =
     tie.close
     (tie.spec
     has-requires
-    turned-requires
+    switched-requires
     menu-turns-requires
     codes-turn-requires
     due-after-requires
@@ -100,7 +100,7 @@ delete-spec =
     unregistered-requires
     made-with-requires
     freed-requires
-    forgotten-requires
+    owner-without-requires
     without-requires
     absent-refusal-requires
     of-refusal-requires

@@ -24,8 +24,8 @@ roll-with-requires c κs =
     let a = accepts k l n q (f .install-refusal .ensures) (c .before .if1 .taken) in
     (from-one k l n q a, to-eight k l n q a, count-room k l n q a, order-form k l, order-eight k l)
 
-turned-requires : tie.Need-turned-requires
-turned-requires c κs = search needs
+switched-requires : tie.Need-switched-requires
+switched-requires c κs = search needs
 
 of-refusal-requires : tie.Need-of-refusal-requires
 of-refusal-requires c κs = search needs
@@ -53,6 +53,6 @@ install-spec =
     install-refusal-requires
     granted-requires
     roll-with-requires
-    turned-requires
+    switched-requires
     of-refusal-requires
     returns)

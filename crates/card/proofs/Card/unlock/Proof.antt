@@ -13,20 +13,20 @@ use Rattle.card.proofs.Card.unlock.Lts as lts
 use Rattle.answers.proofs.of_refusal.Reads as of-refusal-reads
 use Rattle.card.proofs.due_after.Reads as due-after-reads
 use Rattle.card.proofs.locking.absent_refusal.Reads as absent-refusal-reads
-use Rattle.card.proofs.locking.lock_turns.Reads as lock-turns-reads
+use Rattle.card.proofs.locking.lock_switches.Reads as lock-switches-reads
 use Rattle.card.proofs.locking.menu_turns.Reads as menu-turns-reads
 use Rattle.events_shown.proofs.codes_turn.Reads as codes-turn-reads
 use Rattle.sets.proofs.has.Reads as has-reads
-use Rattle.sets.proofs.turned.Reads as turned-reads
+use Rattle.sets.proofs.switched.Reads as switched-reads
 
 has-requires : tie.Need-has-requires
 has-requires c κs = search needs
 
-lock-turns-requires : tie.Need-lock-turns-requires
-lock-turns-requires c κs = search needs
+lock-switches-requires : tie.Need-lock-switches-requires
+lock-switches-requires c κs = search needs
 
-turned-requires : tie.Need-turned-requires
-turned-requires c κs = search needs
+switched-requires : tie.Need-switched-requires
+switched-requires c κs = search needs
 
 menu-turns-requires : tie.Need-menu-turns-requires
 menu-turns-requires c κs = tidy-rows _ (c .before .before .before .before .before .pre)
@@ -54,9 +54,9 @@ returns c =
     let h = t .before in
     let s = h .before in
     ⊎-elim
-    (λ w. lock-turned (s .args .self) (s .pre) (s .args .applet) true (h .has .ensures) (a .absent-refusal .ensures) (sym (t .lock-turns .ensures) ∙ w .0 .taken)
+    (λ w. lock-turned (s .args .self) (s .pre) (s .args .applet) true (h .has .ensures) (a .absent-refusal .ensures) (sym (t .lock-switches .ensures) ∙ w .0 .taken)
     (w .1 .ensures) (w .3 .ensures) (w .5 .ensures) (w .6 .ensures) (w .7 .ensures) (w .10) (c .of-refusal .ensures))
-    (λ w. lock-still (s .args .self) (s .pre) (s .args .applet) true (h .has .ensures) (a .absent-refusal .ensures) (sym (t .lock-turns .ensures) ∙ w .0 .left) (w .1) (c .of-refusal .ensures))
+    (λ w. lock-still (s .args .self) (s .pre) (s .args .applet) true (h .has .ensures) (a .absent-refusal .ensures) (sym (t .lock-switches .ensures) ∙ w .0 .left) (w .1) (c .of-refusal .ensures))
     (j .if1 .came)
 
 pub unlock-spec : {M : Type 1} → statement M
@@ -64,8 +64,8 @@ unlock-spec =
     tie.close
     (tie.spec
     has-requires
-    lock-turns-requires
-    turned-requires
+    lock-switches-requires
+    switched-requires
     menu-turns-requires
     codes-turn-requires
     due-after-requires

@@ -9,12 +9,12 @@ use Rattle.rules.specs.Holds.{Row}
 use Rattle.rules.specs.Held.{noRow}
 
 -- A choice counts for a row: it has the identifier and is enabled; a request for help also needs its help mark.
-abbrev pub isAsked : (identifier : ℕ) (help : Bool) → Row → Bool
-isAsked i help r = r .identifier == i && r .enabled && (r .help || not help)
+abbrev pub isChosen : (identifier : ℕ) (help : Bool) → Row → Bool
+isChosen i help r = r .identifier == i && r .enabled && (r .help || not help)
 
 -- Whom a menu choice or a request for help is for: the owner of the row for which it counts; else nobody.
-unfoldable pub askedOwner : (identifier : ℕ) (help : Bool) → List Row → ℕ
-askedOwner i help rows = first (isAsked i help) noRow rows .owner
+unfoldable pub chosenOwner : (identifier : ℕ) (help : Bool) → List Row → ℕ
+chosenOwner i help rows = first (isChosen i help) noRow rows .owner
 
 -- the row is the applet's, and enabled
 abbrev pub isEnabledOf : (applet : ℕ) → Row → Bool
