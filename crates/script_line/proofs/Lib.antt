@@ -3,3 +3,4 @@ pub mod WordLaws
 pub mod ByteLaws
 pub mod RecordLaws
 pub mod LineLaws
+pub mod Accepted
