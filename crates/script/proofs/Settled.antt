@@ -10,7 +10,6 @@ use mathlib.Core.Logic.{⊎-elim}
 use lib.ListN.{length, take, drop, length-drop}
 use lib.Seq.{length-take-le}
 use Rattle.bytes.specs.Bytes.{indexOf}
-use Rattle.script_line.specs.Lines.{wrong}
 use Rattle.script.specs.declared.Stop.{Stop}
 use Rattle.script.specs.declared.Stop.the-variants.{End, Full, Bad}
 use Rattle.script.specs.declared.Progress.{Progress}

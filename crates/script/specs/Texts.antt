@@ -3,12 +3,11 @@
 use Prim.Native.Nat.{ℕ, zero, suc, _+_, _-_, _*_, _≤_, _<_}
 use mathlib.Core.Path.{_≡_}
 use mathlib.Core.Bool.{Bool, true, false}
-use mathlib.Core.List.{List, [], _∷_, _++_}
+use mathlib.Core.List.{List, [], _++_}
 use lib.ListN.{length, take, drop, getD}
 use Rattle.lists.specs.Tests.{if_then_else_, _==_, _<?_}
 use Rattle.bytes.specs.Bytes.{indexOf}
 use Rattle.script_line.specs.Lines.{Meaning, blank, record-of, wrong, meaningOf}
-use Rattle.script_line.specs.declared.Cause.{Cause}
 use Rattle.script_line.specs.declared.Cause.the-variants.{LongLine}
 use Rattle.script_line.specs.declared.Outcome.{Outcome}
 use Rattle.script_line.specs.declared.Outcome.the-variants as outcome

@@ -4,11 +4,10 @@ use Prim.Native.Nat.{ℕ, suc, _+_, _-_, _≤_, _<_}
 use native.Mathlib.Omega.{arith}
 use native.Mathlib.Nat.{eq-zero-or-pos}
 use mathlib.Core.Path.{_≡_, refl, sym, ap, _∙_}
-use mathlib.Core.Bool.{Bool, true, false}
 use mathlib.Core.List.{List, [], _∷_, _++_}
 use mathlib.Core.Logic.{⊎-elim}
 use lib.Dec.{eqb, ltb}
-use lib.ListN.{length, getD, drop, replicate, length-append, length-replicate, getD-replicate, List·getD-eq-default}
+use lib.ListN.{length, getD, replicate, length-append, length-replicate, getD-replicate, List·getD-eq-default}
 use lib.Seq.{getD-append-add}
 use borrow.Author.Tests.{eqb-false, ltb-false}
 use Rattle.lists.specs.Lists.{padded, empty?}
@@ -24,7 +23,6 @@ use Rattle.script_line.specs.declared.Kind.{Kind}
 use Rattle.script_line.specs.declared.Kind.the-variants.{Install, Entry, Event, Nothing}
 use Rattle.script_line.specs.declared.Form.{Form}
 use Rattle.script_line.specs.declared.Form.the-variants.{Applet, Bytes, Alone, Unknown}
-use Rattle.script_line.specs.declared.Cause.{Cause}
 
 -- P holds of the bytes, where there are any
 unfoldable SaidSo : (List ℕ → Type 0) → Said → Type 0
