@@ -4,15 +4,15 @@ use Prim.Native.Nat.{ℕ, zero, suc, _+_, _-_, _*_, _≤_, _<_}
 use native.Mathlib.Omega.{arith}
 use native.Mathlib.Numerals.{add-one}
 use native.Mathlib.Nat.{eq-or-lt-of-le}
-use mathlib.Core.Path.{_≡_, refl, sym, ap, _∙_}
-use mathlib.Core.Bool.{Bool, true, false}
+use mathlib.Core.Path.{_≡_, refl, sym, ap, _∙_, subst, subst⁻¹}
+use mathlib.Core.Bool.{Bool, true, false, not}
 use mathlib.Core.List.{List, [], _∷_, _++_, append-assoc, append-nil}
 use mathlib.Core.Logic.{⊎-elim}
-use lib.Dec.{eqb, ltb}
+use lib.Dec.{ltb}
 use lib.ListN.{length, take, drop, length-drop, length-append, drop-of-length-le}
 use lib.Seq.{length-take-le, take-at, take-all, drop-drop}
 use borrow.Author.Count.{below-more}
-use borrow.Author.Tests.{lt-ltb, le-ltb, ltb-false, ne-eqb}
+use borrow.Author.Tests.{le-ltb, ltb-false, ne-eqb}
 use borrow.Rule.Slice.PartMut.{putMid, postOf}
 use types.Run.{OneOf}
 use Rattle.bytes.specs.Bytes.{indexOf, slice}
@@ -24,7 +24,7 @@ use Rattle.script_line.specs.declared.Outcome.{Outcome}
 use Rattle.script_line.specs.declared.Outcome.the-variants as outcome
 use Rattle.script.specs.declared.Stop.{Stop}
 use Rattle.script.specs.declared.Stop.the-variants.{End, Full, Bad}
-use Rattle.script.specs.Texts.{madeOf, Standing, Stops, Ends, Good, recordIn, recordsOf, behindLines, firstLine, lineMeaning, unfinishedOf, endedOf, trimmedOf}
+use Rattle.script.specs.Texts.{madeOf, Standing, Stops, Ends, Ended, Reads, Good, recordIn, recordsOf, behindLines, firstLine, lineMeaning, unfinishedOf, endedOf, trimmedOf}
 
 -- a line of at most 200 bytes
 pub short-line : {x : Meaning} {n : ℕ} (l : List ℕ) → length l ≤ 200 → n ≡ trimmedOf l → x ≡ meaningOf (take n l) → x ≡ lineMeaning l
@@ -70,6 +70,15 @@ module _ (text : List ℕ) (at : ℕ) {end : ℕ} (e : end ≡ at + indexOf 0x0A
   pub line-past : {next : ℕ} → at < length text → end ≤ next → (end < length text → next ≡ end + 1) → end ≤ length text → at < next
   line-past within low one high = ⊎-elim (λ h. omega (arith, end-is)) (λ h. omega (arith, end-is, one h)) (eq-or-lt-of-le high)
 
+-- a line that ends the last text, or that a line feed ends
+pub ended-last : (last : Bool) (left : List ℕ) → not last ≡ false → Ended last left
+ended-last true left e = tt
+ended-last false left e = let y : _≡_ {A = ℕ} 0 1 = cc in absurd (omega arith)
+
+pub ended-line : (last : Bool) (text : List ℕ) (at : ℕ) {end : ℕ} → end ≡ at + indexOf 0x0A (slice at (length text) text) → end ≤ length text → (end ≡ length text → ⊥) → Ended last (drop at text)
+ended-line true text at e h n = tt
+ended-line false text at e h n = ⊎-elim (λ z. absurd (n z)) (λ l. omega (arith, end-is text at e, length-drop at text, l)) (eq-or-lt-of-le h)
+
 module _ (m k : ℕ) (out part : List ℕ) (room : m * 24 ≤ length out) where
   -- the records before a place stay
   front-stays : take (m * 24) (putMid (m * 24) k out part) ≡ take (m * 24) out
@@ -83,15 +92,15 @@ module _ (m k : ℕ) (out part : List ℕ) (room : m * 24 ≤ length out) where
       ∙ take-at (take (m * 24) out ++ part) (postOf (m * 24) k out) ((m + 1) * 24) long
 
 -- a line that is bad leaves all as it was
-pub standing-kept : {at records lines : ℕ} {text out : List ℕ} (k : ℕ) (part : List ℕ) → length (putMid (records * 24) k out part) ≡ length out
-    → Standing at records lines text out → Standing at records lines text (putMid (records * 24) k out part)
-standing-kept {records = m} {out = out} k part same s = record {
+pub standing-kept : {last : Bool} {at records lines : ℕ} {text out : List ℕ} (k : ℕ) (part : List ℕ) → length (putMid (records * 24) k out part) ≡ length out
+    → Standing last at records lines text out → Standing last at records lines text (putMid (records * 24) k out part)
+standing-kept {last} {records = m} {text = text} {out = out} k part same s = record {
   read = s .read;
   fits = omega (arith, s .fits, same);
   lined = s .lined;
   few = s .few;
   left = s .left;
-  good = s .good;
+  reads = λ i h. subst⁻¹ (λ (n : ℕ). Reads last n i text) same (s .reads i h);
   made = front-stays m k out part (s .fits) ∙ s .made;
 }
 
@@ -104,9 +113,10 @@ good-blank : {x : Meaning} → blank ≡ x → Good x
 unfolding Good
 good-blank e = rw (sym e) tt
 
-module _ {at m lines next : ℕ} {text out : List ℕ} (k : ℕ) (part : List ℕ) (long : length part ≡ 24) (room : m * 24 + 24 ≤ length out)
+module _ {last : Bool} {at m lines next : ℕ} {text out : List ℕ} (k : ℕ) (part : List ℕ) (long : length part ≡ 24) (room : m * 24 + 24 ≤ length out)
     (same : length (putMid (m * 24) k out part) ≡ length out) (past : at < next) (within : next ≤ length text)
-    (on : drop next text ≡ drop (suc (indexOf 0x0A (drop at text))) (drop at text)) (s : Standing at m lines text out) where
+    (on : drop next text ≡ drop (suc (indexOf 0x0A (drop at text))) (drop at text)) (finished : Ended last (drop at text))
+    (s : Standing last at m lines text out) where
   line-is : {x : Meaning} → x ≡ lineMeaning (firstLine (drop at text)) → x ≡ lineMeaning (firstLine (behindLines lines text))
   line-is e = e ∙ ap (λ t. lineMeaning (firstLine t)) (s .left)
 
@@ -117,9 +127,20 @@ module _ {at m lines next : ℕ} {text out : List ℕ} (k : ℕ) (part : List �
   all-made e =
       e ∙ ap (λ l. l ++ recordIn (lineMeaning (firstLine (behindLines lines text)))) (s .made) ∙ records-more lines text ∙ sym (ap (λ n. recordsOf n text) (add-one lines))
 
+  line-reads : Good (lineMeaning (firstLine (behindLines lines text))) → Reads last (length (putMid (m * 24) k out part)) lines text
+  line-reads g = record {
+    some = omega (arith, past, within, ap length (s .left), length-drop at text);
+    ended = subst (Ended last) (s .left) finished;
+    roomy = omega (arith, room, same, ap length (s .made), length-take-le (m * 24) out (s .fits));
+    good = g;
+  }
+
+  all-read : Good (lineMeaning (firstLine (behindLines lines text))) → (i : ℕ) → i < lines + 1 → Reads last (length (putMid (m * 24) k out part)) i text
+  all-read g = below-more (λ i. Reads last (length (putMid (m * 24) k out part)) i text) lines (λ i h. subst⁻¹ (λ (n : ℕ). Reads last n i text) same (s .reads i h)) (line-reads g)
+
   -- a line more, with its record if it gave one
   pub standing-more : (o : Outcome) → ((c : Cause) → o ≡ outcome.Bad c → ⊥) → heard o part ≡ lineMeaning (firstLine (drop at text))
-      → Standing next (m + madeOf o) (lines + 1) text (putMid (m * 24) k out part)
+      → Standing last next (m + madeOf o) (lines + 1) text (putMid (m * 24) k out part)
   unfolding recordIn
   standing-more outcome.Record n e = record {
     read = within;
@@ -127,7 +148,7 @@ module _ {at m lines next : ℕ} {text out : List ℕ} (k : ℕ) (part : List �
     lined = omega (arith, s .lined);
     few = omega (arith, s .few);
     left = further;
-    good = below-more (λ i. Good (lineMeaning (firstLine (behindLines i text)))) lines (s .good) (good-record part (line-is e));
+    reads = all-read (good-record part (line-is e));
     made = all-made (front-grows m k out part (s .fits) long ∙ ap (λ x. take (m * 24) out ++ recordIn x) (line-is e));
   }
   standing-more outcome.Blank n e = record {
@@ -136,7 +157,7 @@ module _ {at m lines next : ℕ} {text out : List ℕ} (k : ℕ) (part : List �
     lined = omega (arith, s .lined);
     few = omega (arith, s .few);
     left = further;
-    good = below-more (λ i. Good (lineMeaning (firstLine (behindLines i text)))) lines (s .good) (good-blank (line-is e));
+    reads = all-read (good-blank (line-is e));
     made =
         let z : (m + 0) * 24 ≡ m * 24 = omega arith in
         all-made (ap (λ j. take j (putMid (m * 24) k out part)) z ∙ front-stays m k out part (s .fits) ∙ sym (append-nil (take (m * 24) out)) ∙ ap (λ x. take (m * 24) out ++ recordIn x) (line-is e));

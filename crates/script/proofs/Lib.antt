@@ -1,2 +1,3 @@
--- Records one behind the other.
+-- Lines and records one behind the other; no second answer.
 pub mod Blocks
+pub mod Settled

@@ -3,12 +3,11 @@
 use Prim.Native.Nat.{ℕ, zero, suc, _+_, _-_, _*_, _≤_, _<_}
 use mathlib.Core.Path.{_≡_}
 use mathlib.Core.Bool.{Bool, true, false}
-use mathlib.Core.List.{List, [], _∷_, _++_}
+use mathlib.Core.List.{List, [], _++_}
 use lib.ListN.{length, take, drop, getD}
 use Rattle.lists.specs.Tests.{if_then_else_, _==_, _<?_}
 use Rattle.bytes.specs.Bytes.{indexOf}
 use Rattle.script_line.specs.Lines.{Meaning, blank, record-of, wrong, meaningOf}
-use Rattle.script_line.specs.declared.Cause.{Cause}
 use Rattle.script_line.specs.declared.Cause.the-variants.{LongLine}
 use Rattle.script_line.specs.declared.Outcome.{Outcome}
 use Rattle.script_line.specs.declared.Outcome.the-variants as outcome
@@ -56,14 +55,26 @@ madeOf outcome.Record = 1
 madeOf outcome.Blank = 0
 madeOf (outcome.Bad c) = 0
 
--- the first lines of the text are read, none of them bad: their records, so many, stand at the front of the output, and the text is read up to the next line
-pub record Standing (at records lines : ℕ) (text out : List ℕ) : Type 0 where
+-- a line feed ends the line that is left; the last text may end it too
+abbrev pub Ended : (last : Bool) → (left : List ℕ) → Type 0
+Ended true left = Unit
+Ended false left = indexOf 0x0A left < length left
+
+-- the line behind the first k is read: there is one, it has ended, so many bytes of output have room for a record more, and it is not bad
+pub record Reads (last : Bool) (room k : ℕ) (text : List ℕ) : Type 0 where
+  pub some : 0 < length (behindLines k text)
+  pub ended : Ended last (behindLines k text)
+  pub roomy : length (recordsOf k text) + 24 ≤ room
+  pub good : Good (lineMeaning (firstLine (behindLines k text)))
+
+-- so many lines are read: their records, so many, stand at the front of the output, and the text is read up to the next line
+pub record Standing (last : Bool) (at records lines : ℕ) (text out : List ℕ) : Type 0 where
   pub read : at ≤ length text
   pub fits : records * 24 ≤ length out
   pub lined : lines ≤ at
   pub few : records ≤ lines
   pub left : drop at text ≡ behindLines lines text
-  pub good : (k : ℕ) → k < lines → Good (lineMeaning (firstLine (behindLines k text)))
+  pub reads : (k : ℕ) → k < lines → Reads last (length out) k text
   pub made : take (records * 24) out ≡ recordsOf lines text
 
 -- nothing is left of the last text; of another, nothing but a line that may still go on
@@ -78,7 +89,7 @@ Stops Full last left out records = (0 < length left) × (length out < records * 
 Stops (Bad c) last left out records = (lineMeaning (firstLine left) ≡ wrong c) × (records * 24 + 24 ≤ length out)
 
 abbrev pub Composed : Progress → (last : Bool) → (text out : List ℕ) → Type 0
-Composed r last text out = Standing (r .at) (r .records) (r .lines) text out × Stops (r .stop) last (drop (r .at) text) out (r .records)
+Composed r last text out = Standing last (r .at) (r .records) (r .lines) text out × Stops (r .stop) last (drop (r .at) text) out (r .records)
 
 -- what a line that may still go on says, by its length
 abbrev pub unfinishedOf : ℕ → Stop

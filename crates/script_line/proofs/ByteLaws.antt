@@ -3,21 +3,19 @@
 use Prim.Native.Nat.{ℕ, _+_, _%_, _≤_, _<_}
 use native.Mathlib.Nat.{mod-eq-of-lt}
 use native.Mathlib.Omega.{arith}
-use native.Mathlib.Numerals.{add-one}
 use mathlib.Core.Path.{_≡_, refl, sym, ap, _∙_}
 use mathlib.Core.Bool.{Bool, true, false}
 use mathlib.Core.List.{List, [], _∷_, _++_}
 use lib.Dec.{eqb}
-use lib.ListN.{length, getD, take, drop}
+use lib.ListN.{length, getD, drop}
 use borrow.Author.Tests.{eq-eqb, ne-eqb}
 use Rattle.lists.specs.Lists.{run}
 use Rattle.script_line.specs.Words.{space?, inWord?, ended?, skipped, word, behind, byteOf}
-use Rattle.script_line.specs.Lines.{Said, said, bad, between, inWord, inText, behindText, withByte, withNumber, bytesFrom}
+use Rattle.script_line.specs.Lines.{said, bad, between, inWord, inText, behindText, withByte, withNumber, bytesFrom}
 use Rattle.script_line.specs.Records.{PlainAt}
 use Rattle.script_line.proofs.WordLaws.{here, none-left, in-word-parts, InWord, byte-small, behind-is}
 use Rattle.script_line.specs.declared.Cause.{Cause}
 use Rattle.script_line.specs.declared.Cause.the-variants.{ManyBytes, OpenQuote, MissingSpace}
-use Rattle.script_line.specs.declared.Number.{Number}
 use Rattle.script_line.specs.declared.Number.the-variants.{Value, Bad}
 
 module _ (n : ℕ) (l : List ℕ) where

@@ -3,16 +3,15 @@
 use Prim.Native.Nat.{ℕ, _+_, _-_, _/_, _%_, _≤_, _<_}
 use native.Mathlib.Omega.{arith}
 use mathlib.Core.Path.{_≡_, refl, sym, ap, _∙_}
-use mathlib.Core.Bool.{Bool, true, false}
 use mathlib.Core.List.{List, [], _∷_, _++_}
 use lib.ListN.{length, getD, take, drop, length-drop}
 use lib.Seq.{length-take-le, getD-drop, getD-take}
 use borrow.Author.Tests.{eq-eqb, ne-eqb, le-ltb, lt-ltb}
-use Rattle.lists.specs.Lists.{run, empty?}
+use Rattle.lists.specs.Lists.{run}
 use Rattle.lists.proofs.Parts.{part-rest}
-use Rattle.script_line.specs.Words.{inWord?, skipped, word, behind, decimalOf, signedOf, minus, plus}
-use Rattle.script_line.specs.Lines.{Said, said, bad, helped, onlyIfLast, eventOf, argumentsOf, recordBy, small, appletOf, namedBy, lettered, formOf, byLetter, Meaning, blank, wrong, meaningOf}
-use Rattle.script_line.specs.Records.{Free, took, Starts, Gave, Read, Placed, NamedAt, countIfLast}
+use Rattle.script_line.specs.Words.{inWord?, word, behind, decimalOf, signedOf, minus, plus}
+use Rattle.script_line.specs.Lines.{Said, bad, helped, onlyIfLast, eventOf, argumentsOf, recordBy, small, appletOf, namedBy, lettered, formOf, byLetter, Meaning, blank, wrong, meaningOf}
+use Rattle.script_line.specs.Records.{took, Starts, Gave, Read, Placed, NamedAt, countIfLast}
 use Rattle.script_line.proofs.WordLaws.{word-is, behind-is, nothing-left, some-left}
 use Rattle.script_line.specs.declared.Cause.{Cause}
 use Rattle.script_line.specs.declared.Cause.the-variants.{UnknownLetter, MissingApplet, MissingNumber, LargeNumber, MissingHelp, BadHelp, ExtraWord}

@@ -2,17 +2,15 @@
 -- Assumes nothing.
 use Prim.Native.Nat.{ℕ, suc, _+_, _-_, _≤_, _<_}
 use native.Mathlib.Omega.{arith}
-use native.Mathlib.Nat.{eq-zero-or-pos}
 use mathlib.Core.Path.{_≡_, refl, sym, ap, _∙_}
 use mathlib.Core.Bool.{Bool, true, false}
 use mathlib.Core.List.{List, [], _∷_, _++_, append-assoc}
-use mathlib.Core.Logic.{⊎-elim}
-use lib.ListN.{length, getD, take, drop, set, replicate, length-set, length-append, length-replicate, getD-replicate, replicate-append-replicate}
-use lib.Seq.{getD-set-same, getD-set-other, getD-take, getD-drop, ext-getD}
+use lib.ListN.{length, getD, set, replicate, length-set, length-append, length-replicate, getD-replicate, replicate-append-replicate}
+use lib.Seq.{getD-set-same, getD-set-other, ext-getD}
 use borrow.Author.Count.{below-more}
 use Rattle.lists.specs.Lists.{padded, empty?}
 use Rattle.lists.proofs.Padded.{length-padded, take-padded, push}
-use Rattle.script_line.specs.Lines.{Said, said, bad, installed, helped, onlyIfLast, recordOf, recordBy, Meaning}
+use Rattle.script_line.specs.Lines.{Said, said, installed, onlyIfLast, recordOf, recordBy}
 use Rattle.script_line.specs.Words.{skipped}
 use Rattle.script_line.specs.Records.{took, Free, Gave, Finished, heard, countIfLast, Counted}
 use Rattle.script_line.specs.declared.Count.{Count}

@@ -1,12 +1,12 @@
 -- What a line of a script means: nothing, a record of the floor program, or the cause why it is none.
 -- A line is a letter and what follows that letter: an applet's number, bytes in hexadecimal, texts in quotes, an event value.
-use Prim.Native.Nat.{ℕ, _+_, _/_, _%_}
+use Prim.Native.Nat.{ℕ, _/_, _%_}
 use Prim.Native.Char.{code}
 use mathlib.Core.List.{List, [], _∷_, _++_}
 use lib.ListN.{length, getD}
 use Rattle.lists.specs.Tests.{if_then_else_, _==_, _<?_}
 use Rattle.lists.specs.Lists.{empty?, padded}
-use Rattle.script_line.specs.Words.{space?, inWord?, skipped, word, behind, byteOf, decimalOf, signedOf}
+use Rattle.script_line.specs.Words.{space?, skipped, word, behind, byteOf, decimalOf, signedOf}
 use Rattle.script_line.specs.declared.Cause.{Cause}
 use Rattle.script_line.specs.declared.Cause.the-variants.{UnknownLetter, MissingApplet, MissingNumber, LargeNumber, ManyBytes, OpenQuote, MissingSpace, MissingHelp, BadHelp, ExtraWord}
 use Rattle.script_line.specs.declared.Number.{Number}

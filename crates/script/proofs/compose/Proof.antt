@@ -8,14 +8,14 @@ use lib.ListN.{length, drop, length-drop}
 use Rattle.script.specs.Texts.{Standing, behindLines, recordsOf, lineMeaning}
 use denote.Enum.Declared.{tagOf}
 use Rattle.script_line.proofs.Outcome.{the-type}
-use Rattle.script.proofs.Blocks.{standing-kept, standing-more, line-past, made-few, end-is, first-is, next-is, bad-line, never-two, stops-unfinished, stops-ended}
+use Rattle.script.proofs.Blocks.{standing-kept, standing-more, line-past, made-few, end-is, first-is, next-is, bad-line, never-two, stops-unfinished, stops-ended, ended-last, ended-line}
 use borrow.Author.Needs.{needs}
 use borrow.Author.Tests.{leb-true, leb-false, not-true}
 use Rattle.script.proofs.compose.Statement.{statement}
 use Rattle.script.proofs.compose.Tie as tie
 
 abbrev Inv-loop : tie.InvT-loop
-Inv-loop text out₀ last at₀ records₀ lines₀ out at records lines = Standing at records lines text out × (length out ≡ length out₀)
+Inv-loop text out₀ last at₀ records₀ lines₀ out at records lines = Standing last at records lines text out × (length out ≡ length out₀)
 
 abbrev μ-loop : tie.MeasureT-loop
 μ-loop text out₀ last at₀ records₀ lines₀ out at records lines = length text - at
@@ -29,7 +29,7 @@ loop-holds c = (
     lined = search needs;
     few = search needs;
     left = refl;
-    good = λ k w. absurd (omega arith);
+    reads = λ k w. absurd (omega arith);
     made = refl;
   },
   search needs,
@@ -146,9 +146,10 @@ loop-again c =
     let r = c .before .before .before .before .before .line-record in
     let w = l .loop .records * 24 in
     let long : length (r .last .1 .0) ≡ 24 = search needs in
+    let finished = ⊎-elim (λ w. ended-last (a .last) (drop (l .loop .at) (a .text .now)) (w .1 .left)) (λ w. ended-line (a .last) (a .text .now) (l .loop .at) (e .0) (e .1) (w .left)) (c .before .before .before .before .before .before .before .before .if2 .came) in
     let on = next-is (a .text .now) (l .loop .at) (e .0) (e .1) (next .0) (next .1) (next .2) in (
       rw (c .before .made .ensures)
-          (standing-more (w + 24 - w) (r .last .1 .0) long room (search needs) past (next .1) on (l .loop .inv .0) (r .result)
+          (standing-more (w + 24 - w) (r .last .1 .0) long room (search needs) past (next .1) on finished (l .loop .inv .0) (r .result)
           (λ d k. never-two (c .before .before .match .keys2) (ap (tagOf the-type) k))
           (r .ensures ∙ ap lineMeaning (first-is (a .text .now) (l .loop .at) (e .0)))),
       search needs,

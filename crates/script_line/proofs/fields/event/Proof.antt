@@ -1,10 +1,6 @@
 -- `script_line::fields::event` meets its contract.
 -- Assumes nothing.
-use Prim.Native.Nat.{_/_, _%_}
-use mathlib.Core.Path.{_≡_, ap, _∙_}
-use mathlib.Core.List.{[], _∷_, _++_}
 use Rattle.script_line.specs.Words.{signedOf}
-use Rattle.script_line.specs.Records.{took}
 use Rattle.script_line.proofs.RecordLaws.{last-gave}
 use Rattle.script_line.proofs.LineLaws.{at-word, event-none, event-is, event-bad, gave-by, two-bytes}
 use borrow.Author.Needs.{needs}

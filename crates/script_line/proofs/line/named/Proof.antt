@@ -3,7 +3,7 @@
 use mathlib.Core.Path.{_∙_}
 use lib.ListN.{drop}
 use Rattle.script_line.specs.Words.{skipped, behind}
-use Rattle.script_line.specs.Lines.{appletOf, argumentsOf}
+use Rattle.script_line.specs.Lines.{appletOf}
 use Rattle.script_line.proofs.RecordLaws.{gave-free, heard-finished}
 use Rattle.script_line.proofs.LineLaws.{named-at, named-not, named-is, named-bad}
 -- `script_line::line::named` meets its contract.

@@ -1,6 +1,5 @@
 -- `script_line::words::byte` meets its contract.
 -- Assumes nothing.
-use mathlib.Core.Path.{sym}
 use Rattle.script_line.proofs.WordLaws.{byte-high, byte-low, byte-is}
 use Rattle.lists.proofs.Picks.{picks}
 use Rattle.script_line.specs.Words.{byteOf}

@@ -1,7 +1,7 @@
 -- `script_line::words::decimal` meets its contract.
 -- Assumes nothing.
 use Prim.Native.Nat.{_-_, _≤_}
-use mathlib.Core.Path.{_≡_, refl, sym, _∙_}
+use mathlib.Core.Path.{_≡_, sym, _∙_}
 use lib.ListN.{length, drop}
 use Rattle.lists.proofs.Picks.{picks}
 use Rattle.script_line.specs.Words.{decimalOf, digitsFrom}
