@@ -11,10 +11,10 @@ use lib.Dec.{eqb·suc-suc, eqb·suc-zero}
 use lib.ListN.{length, getD, set, List·getD-map}
 use borrow.Author.Tests.{eqb-true, ne-eqb, le-leb}
 use Rattle.lists.specs.Tests.{if_then_else_, _==_}
-use Rattle.lists.specs.Lists.{run}
+use Rattle.lists.specs.Lists.{leading}
 use Rattle.lists.proofs.Decided.{clashing}
 use Rattle.lists.proofs.Every.{every-getD}
-use Rattle.lists.proofs.Firsts.{run-ends}
+use Rattle.lists.proofs.Firsts.{leading-ends}
 use Rattle.lists.proofs.Places.{getD-set, getD-clear}
 use Rattle.lists.proofs.Times.{if-same}
 use Rattle.rules.specs.Holds.{Bounds, Tables, document}
@@ -53,11 +53,11 @@ module _ (t : Tables) (b : t .bounds ≡ document) (s : SoundTables t) where
   free o (inr e) h = clashing (rw (le-leb 1 o (number-from t s o e), le-leb o 8 (within o (inr e))) refl) h
 
   -- the lowest free timer is nobody's
-  unowned : run isOwner (t .timers) < length (t .timers) → getD (t .timers) (run isOwner (t .timers)) 0 ≡ 0
+  unowned : leading isOwner (t .timers) < length (t .timers) → getD (t .timers) (leading isOwner (t .timers)) 0 ≡ 0
   unowned h =
       free _
-      (every-getD (NobodyOrPresent t) 0 (inl refl) (t .timers) (run isOwner (t .timers)) (s .each-timer))
-      (run-ends isOwner 0 (t .timers) h)
+      (every-getD (NobodyOrPresent t) 0 (inl refl) (t .timers) (leading isOwner (t .timers)) (s .each-timer))
+      (leading-ends isOwner 0 (t .timers) h)
 
 -- the owner of a timer after one was given, or released, or freed with its applet
 at-suc : (l : List ℕ) (k : ℕ) → ownerOf l (suc k) ≡ getD l k 0
@@ -108,7 +108,7 @@ timers-kept m h (timer (allocate b)) ok s g k n o =
     ∙ go (suc next == k) (b == n) refl refl
   where
     next : ℕ
-    next = run isOwner (m .tables .timers)
+    next = leading isOwner (m .tables .timers)
 
     some-free : next < length (m .tables .timers)
     some-free = allocates m b ok .free

@@ -7,7 +7,7 @@ use mathlib.Core.Bool.{Bool, true, false, _||_}
 use mathlib.Core.List.{List, [], _∷_, _++_}
 use lib.ListN.{length, getD}
 use Rattle.lists.specs.Tests.{if_then_else_}
-use Rattle.lists.specs.Lists.{some?, keep, run, first, change}
+use Rattle.lists.specs.Lists.{some?, keep, leading, first, change}
 use Rattle.lists.proofs.Decided.{clashing}
 
 module _ {A : Type 0} (p : A → Bool) where
@@ -110,11 +110,11 @@ module _ {A : Type 0} (p : A → Bool) where
       go false t e g r = rw (g, r) refl
 
   -- what stands where a run ends does not pass
-  pub run-ends : (d : A) (l : List A) → run p l < length l → p (getD l (run p l) d) ≡ false
-  unfolding run
-  run-ends d [] h = absurd (omega arith)
-  run-ends d (x ∷ l) h = go (p x) refl h (run-ends d l)
+  pub leading-ends : (d : A) (l : List A) → leading p l < length l → p (getD l (leading p l) d) ≡ false
+  unfolding leading
+  leading-ends d [] h = absurd (omega arith)
+  leading-ends d (x ∷ l) h = go (p x) refl h (leading-ends d l)
     where
-      go : (b : Bool) → p x ≡ b → (if b then suc (run p l) else 0) < suc (length l) → (run p l < length l → p (getD l (run p l) d) ≡ false) → p (getD (x ∷ l) (if b then suc (run p l) else 0) d) ≡ false
+      go : (b : Bool) → p x ≡ b → (if b then suc (leading p l) else 0) < suc (length l) → (leading p l < length l → p (getD l (leading p l) d) ≡ false) → p (getD (x ∷ l) (if b then suc (leading p l) else 0) d) ≡ false
       go true e q r = r (omega arith)
       go false e q r = e

@@ -37,9 +37,9 @@ module _ {A : Type 0} where
   count p (x ∷ l) = if p x then suc (count p l) else count p l
 
   -- how many at the front pass, up to the first that does not
-  unfoldable pub run : (A → Bool) → List A → ℕ
-  run p [] = 0
-  run p (x ∷ l) = if p x then suc (run p l) else 0
+  unfoldable pub leading : (A → Bool) → List A → ℕ
+  leading p [] = 0
+  leading p (x ∷ l) = if p x then suc (leading p l) else 0
 
   -- the index of the first that passes, or the length where none does
   unfoldable pub indexOf : (A → Bool) → List A → ℕ

@@ -20,7 +20,7 @@ use Rattle.rules.specs.Floor as floor′
 use Rattle.rules.specs.Held as held′
 
 unfoldable pub openLists : Unit {0}
-unfolding lists′.empty? lists′.some? lists′.every? lists′.Every lists′.keep lists′.count lists′.run lists′.indexOf lists′.first lists′.change lists′.insertBefore lists′.insertAt lists′.sum lists′.gather lists′.alike? lists′.padded lists′.in? lists′.same? lists′.repeats? tables′.table
+unfolding lists′.empty? lists′.some? lists′.every? lists′.Every lists′.keep lists′.count lists′.leading lists′.indexOf lists′.first lists′.change lists′.insertBefore lists′.insertAt lists′.sum lists′.gather lists′.alike? lists′.padded lists′.in? lists′.same? lists′.repeats? tables′.table
 openLists = tt
 
 unfoldable pub openText : Unit {0}

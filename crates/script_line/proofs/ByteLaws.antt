@@ -9,7 +9,7 @@ use mathlib.Core.List.{List, [], _∷_, _++_}
 use lib.Dec.{eqb}
 use lib.ListN.{length, getD, drop}
 use borrow.Author.Tests.{eq-eqb, ne-eqb}
-use Rattle.lists.specs.Lists.{run}
+use Rattle.lists.specs.Lists.{leading}
 use Rattle.script_line.specs.Words.{space?, inWord?, ended?, skipped, word, behind, byteOf}
 use Rattle.script_line.specs.Lines.{said, bad, between, inWord, inText, behindText, withByte, withNumber, bytesFrom}
 use Rattle.script_line.specs.Records.{PlainAt}
@@ -21,7 +21,7 @@ use Rattle.script_line.specs.declared.Number.the-variants.{Value, Bad}
 module _ (n : ℕ) (l : List ℕ) where
   -- reading on in a word is reading on behind it
   in-word : (s : List ℕ) → bytesFrom n l inWord s ≡ bytesFrom n l between (behind s)
-  unfolding bytesFrom behind run inWord?
+  unfolding bytesFrom behind leading inWord?
   in-word [] = refl
   in-word (b ∷ s) = go (eqb b 0x23) refl (space? b) refl (in-word s)
     where
@@ -67,7 +67,7 @@ module _ (n : ℕ) (l : List ℕ) where
   with-word b s w q = simp (w .no-hash, w .no-space, q)
 
   behind-word : (b : ℕ) (s : List ℕ) → InWord b → behind (b ∷ s) ≡ behind s
-  unfolding behind run inWord?
+  unfolding behind leading inWord?
   behind-word b s w = simp (w .no-hash, w .no-space)
 
 module _ (n : ℕ) (l s : List ℕ) {at : ℕ} where
@@ -122,6 +122,6 @@ module _ (n : ℕ) (l s : List ℕ) {at : ℕ} where
 
 -- a byte of two digits is read, and its word is passed
 pub plain-on : (n : ℕ) (l s : List ℕ) {at : ℕ} → PlainAt at s → {v to : ℕ} {k : List ℕ} → byteOf (word (drop at s)) ≡ Value v → (length l ≡ n → ⊥)
-    → to ≡ at + run inWord? (drop at s) → k ≡ l ++ v % 256 ∷ [] → bytesFrom n l between (drop at s) ≡ bytesFrom n k between (drop to s)
+    → to ≡ at + leading inWord? (drop at s) → k ≡ l ++ v % 256 ∷ [] → bytesFrom n l between (drop at s) ≡ bytesFrom n k between (drop to s)
 plain-on n l s {at} p {v} e f t k =
     plain-more n l s p e f ∙ rw (k, mod-eq-of-lt (byte-small (word (drop at s)) e .small), behind-is s at t) refl

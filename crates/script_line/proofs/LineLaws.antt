@@ -7,7 +7,7 @@ use mathlib.Core.List.{List, [], _∷_, _++_}
 use lib.ListN.{length, getD, take, drop, length-drop}
 use lib.Seq.{length-take-le, getD-drop, getD-take}
 use borrow.Author.Tests.{eq-eqb, ne-eqb, le-ltb, lt-ltb}
-use Rattle.lists.specs.Lists.{run}
+use Rattle.lists.specs.Lists.{leading}
 use Rattle.lists.proofs.Parts.{part-rest}
 use Rattle.script_line.specs.Words.{inWord?, word, behind, decimalOf, signedOf, minus, plus}
 use Rattle.script_line.specs.Lines.{Said, bad, helped, onlyIfLast, eventOf, argumentsOf, recordBy, small, appletOf, namedBy, lettered, formOf, byLetter, Meaning, blank, wrong, meaningOf}
@@ -38,7 +38,7 @@ module _ (s : List ℕ) {d r : Number} (some : length s ≡ 0 → ⊥) where
   signed-plus e a b = simp (ne-eqb _ _ some, ne-eqb _ _ e) (b ∙ ap plus a)
 
 -- what a part of a line that is a word gives
-pub at-word : (f : List ℕ → Number) (s : List ℕ) (at : ℕ) {to : ℕ} {r x : Number} → to ≡ at + run inWord? (drop at s) → r ≡ f (take (to - at) (drop at s)) → r ≡ x → f (word (drop at s)) ≡ x
+pub at-word : (f : List ℕ → Number) (s : List ℕ) (at : ℕ) {to : ℕ} {r x : Number} → to ≡ at + leading inWord? (drop at s) → r ≡ f (take (to - at) (drop at s)) → r ≡ x → f (word (drop at s)) ≡ x
 at-word f s at e a b = ap f (sym (word-is s at e)) ∙ sym a ∙ b
 
 module _ {from at : ℕ} (s : List ℕ) (g : Starts from at s) where
@@ -79,7 +79,7 @@ module _ {from at : ℕ} (s : List ℕ) (g : Starts from at s) where
     unfolding argumentsOf
     event-by e = simp (some-left s g more) (ap (λ t. eventOf (signedOf (word t)) (behind t)) (sym (g .left)) ∙ ap (λ n. eventOf n (behind (drop at s))) e)
 
-    pub event-is : {v to : ℕ} {l : List ℕ} → signedOf (word (drop at s)) ≡ Value v → to ≡ at + run inWord? (drop at s) → l ≡ v / 256 % 256 ∷ v % 256 ∷ [] → argumentsOf Event (drop from s) ≡ onlyIfLast l (drop to s)
+    pub event-is : {v to : ℕ} {l : List ℕ} → signedOf (word (drop at s)) ≡ Value v → to ≡ at + leading inWord? (drop at s) → l ≡ v / 256 % 256 ∷ v % 256 ∷ [] → argumentsOf Event (drop from s) ≡ onlyIfLast l (drop to s)
     unfolding eventOf
     event-is e t k = event-by e ∙ rw (k, behind-is s at t) refl
 
@@ -159,7 +159,7 @@ module _ {at : ℕ} (s : List ℕ) (g : Starts 0 at s) where
   unfolding meaningOf
   means-blank e = simp (nothing-left s g e)
 
-  module _ (more : at ≡ length s → ⊥) {to : ℕ} (ends : to ≡ at + run inWord? (drop at s)) (within : to ≤ length s) where
+  module _ (more : at ≡ length s → ⊥) {to : ℕ} (ends : to ≡ at + leading inWord? (drop at s)) (within : to ≤ length s) where
     means-word : {x : Meaning} → x ≡ byLetter (drop at s) → x ≡ meaningOf s
     unfolding meaningOf
     means-word e = simp (some-left s g more) (e ∙ ap byLetter (g .left))
@@ -167,9 +167,9 @@ module _ {at : ℕ} (s : List ℕ) (g : Starts 0 at s) where
     long : length (word (drop at s)) ≡ to - at
     unfolding word
     long =
-        let k : run inWord? (drop at s) ≡ to - at = omega arith in
-        let few : run inWord? (drop at s) ≤ length (drop at s) = omega (arith, length-drop at s) in
-        length-take-le (run inWord? (drop at s)) (drop at s) few ∙ k
+        let k : leading inWord? (drop at s) ≡ to - at = omega arith in
+        let few : leading inWord? (drop at s) ≤ length (drop at s) = omega (arith, length-drop at s) in
+        length-take-le (leading inWord? (drop at s)) (drop at s) few ∙ k
 
     pub means-long : {x : Meaning} → (to - at ≡ 1 → ⊥) → x ≡ wrong UnknownLetter → x ≡ meaningOf s
     unfolding byLetter

@@ -12,7 +12,7 @@ use lib.Dec.{eqb, leb}
 use lib.ListN.{length, getD, take, drop, drop-of-length-le}
 use lib.Seq.{drop-cons, drop-length, drop-drop}
 use borrow.Author.Tests.{eq-eqb, ne-eqb, le-ltb, lt-ltb, le-leb, lt-leb, eqb-true, leb-false}
-use Rattle.lists.specs.Lists.{run, empty?}
+use Rattle.lists.specs.Lists.{leading, empty?}
 use Rattle.script_line.specs.Words.{space?, inWord?, ended?, skipped, word, behind, nibbleOf, byteOf, digitsFrom, decimalOf}
 use Rattle.script_line.specs.Records.{Starts, WordAt}
 use Rattle.script_line.specs.declared.Cause.the-variants.{BadNumber, LargeNumber, BadByte}
@@ -68,17 +68,17 @@ module _ (s : List ℕ) {at : ℕ} where
   unfolding skipped
   skip-end h = rw (none-left h) refl
 
-  pub run-more : at < length s → inWord? (getD s at 0) ≡ true → run inWord? (drop at s) ≡ run inWord? (drop (at + 1) s) + 1
-  unfolding run
-  run-more h e = rw (here h) (simp (e, add-one))
+  pub leading-more : at < length s → inWord? (getD s at 0) ≡ true → leading inWord? (drop at s) ≡ leading inWord? (drop (at + 1) s) + 1
+  unfolding leading
+  leading-more h e = rw (here h) (simp (e, add-one))
 
-  pub run-stop : at < length s → inWord? (getD s at 0) ≡ false → run inWord? (drop at s) ≡ 0
-  unfolding run
-  run-stop h e = rw (here h) (simp e)
+  pub leading-stop : at < length s → inWord? (getD s at 0) ≡ false → leading inWord? (drop at s) ≡ 0
+  unfolding leading
+  leading-stop h e = rw (here h) (simp e)
 
-  pub run-end : length s ≤ at → run inWord? (drop at s) ≡ 0
-  unfolding run
-  run-end h = rw (none-left h) refl
+  pub leading-end : length s ≤ at → leading inWord? (drop at s) ≡ 0
+  unfolding leading
+  leading-end h = rw (none-left h) refl
 
   pub ended-at : at < length s → {r : Bool} → (getD s at 0 ≡ 0x23 → ⊥) → r ≡ space? (getD s at 0) → r ≡ ended? (drop at s)
   unfolding ended?
@@ -154,14 +154,14 @@ module _ {from r : ℕ} (s : List ℕ) (g : Starts from r s) where
   some-left n = let h : r < length s = ⊎-elim (λ e. absurd (n (omega (arith, g .high)))) (λ l. omega arith) (eq-zero-or-pos (length s - r)) in rw (sym (g .left), here s h) refl
 
 -- a word and what is left behind it, by its end
-module _ (s : List ℕ) (at : ℕ) {to : ℕ} (e : to ≡ at + run inWord? (drop at s)) where
+module _ (s : List ℕ) (at : ℕ) {to : ℕ} (e : to ≡ at + leading inWord? (drop at s)) where
   pub word-is : take (to - at) (drop at s) ≡ word (drop at s)
   unfolding word
-  word-is = let k : to - at ≡ run inWord? (drop at s) = omega arith in ap (λ n. take n (drop at s)) k
+  word-is = let k : to - at ≡ leading inWord? (drop at s) = omega arith in ap (λ n. take n (drop at s)) k
 
   pub behind-is : drop to s ≡ behind (drop at s)
   unfolding behind
-  behind-is = rw e (sym (drop-drop (run inWord? (drop at s)) at s))
+  behind-is = rw e (sym (drop-drop (leading inWord? (drop at s)) at s))
 
 pub below : {a n : ℕ} → a ≤ n → (a ≡ n → ⊥) → a < n
 below h n = ⊎-elim (λ e. absurd (n e)) (λ l. l) (eq-or-lt-of-le h)

@@ -6,7 +6,7 @@ use mathlib.Core.Bool.{Bool, true, false}
 use mathlib.Core.List.{List, [], _∷_}
 use lib.ListN.{length, take, drop, getD}
 use Rattle.lists.specs.Tests.{if_then_else_, _==_, _<?_, _≤?_}
-use Rattle.lists.specs.Lists.{run}
+use Rattle.lists.specs.Lists.{leading}
 use Rattle.script_line.specs.declared.Number.{Number}
 use Rattle.script_line.specs.declared.Number.the-variants.{Value, Bad}
 use Rattle.script_line.specs.declared.Cause.the-variants.{BadNumber, LargeNumber, BadByte}
@@ -31,11 +31,11 @@ skipped (b ∷ s) = if b == code "#" then [] else if space? b then skipped s els
 
 -- the word that bytes start with
 unfoldable pub word : List ℕ → List ℕ
-word s = take (run inWord? s) s
+word s = take (leading inWord? s) s
 
 -- what is left behind that word
 unfoldable pub behind : List ℕ → List ℕ
-behind s = drop (run inWord? s) s
+behind s = drop (leading inWord? s) s
 
 -- the value of a hexadecimal digit of either case, or 16
 unfoldable pub nibbleOf : ℕ → ℕ

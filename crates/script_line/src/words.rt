@@ -5,7 +5,7 @@ use crate::Number;
 ghost use mathlib.Core.Path.{_≡_};
 ghost use Prim.Native.Nat.{_+_, _≤_};
 ghost use lib.ListN.{length, drop};
-ghost use Rattle.lists.specs.Lists.{run};
+ghost use Rattle.lists.specs.Lists.{leading};
 ghost use Rattle.script_line.specs.Words.{space?, inWord?, nibbleOf, byteOf, decimalOf, minus, plus, signedOf};
 ghost use Rattle.script_line.specs.Records.{Starts};
 
@@ -41,7 +41,7 @@ pub fn word_start(line: &[u8], from: usize) -> usize
 // Where the word that starts here ends.
 pub fn word_end(line: &[u8], from: usize) -> usize
     requires { ⌜ from ≤ length (now line) ⌝ }
-    ensures { λ r. ⌜ (r ≡ from + run inWord? (drop from (now (line .entry)))) × (r ≤ length (now (line .entry))) ⌝ }
+    ensures { λ r. ⌜ (r ≡ from + leading inWord? (drop from (now (line .entry)))) × (r ≤ length (now (line .entry))) ⌝ }
 {
     let mut at = from;
     while at < line.len() {

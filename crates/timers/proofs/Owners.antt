@@ -11,7 +11,7 @@ use lib.Dec.{leb}
 use lib.ListN.{length, getD, set, length-map, List·getD-eq-default}
 use lib.Count.{ones, trailingZeros}
 use Rattle.lists.specs.Tests.{_==_}
-use Rattle.lists.specs.Lists.{count, run}
+use Rattle.lists.specs.Lists.{count, leading}
 use Rattle.lists.proofs.Decided.{both}
 use Rattle.rules.specs.declared.Bank.{Bank}
 use Rattle.rules.specs.Timers.{isOwner, atLimit, noneFree, lowestFree, ownerOf, notItsTimer, withAllocated, withReleased}
@@ -21,7 +21,7 @@ use Rattle.rules.specs.Calls.{accepted, refusedWith, numbered}
 use Rattle.rules.specs.Held.{storedAnswer}
 use Rattle.timers.specs.Sets.{isBetween, setOf}
 use Rattle.timers.specs.Promises.{Allocates, Releases}
-use Rattle.timers.proofs.Sets.{ones-count, count-alike, between-one, trailing-run, run-le}
+use Rattle.timers.proofs.Sets.{ones-count, count-alike, between-one, trailing-leading, leading-le}
 
 -- an owner is a number of 1 to 8
 pub owner-between : (n : ℕ) (b : Bool) → isBetween 1 8 n ≡ b → isOwner n ≡ b
@@ -64,17 +64,17 @@ module _ (os : List ℕ) (s : ℕ) where
       let held : ones s ≡ count (λ o. o == n) os = ap ones e ∙ ones-count (isBetween n n) os ∙ count-alike (isBetween n n) (λ o. o == n) (between-one n) os in
       rw (m, held) refl
 
-  free-run : length os ≡ 8 → s ≡ setOf (isBetween 1 8) os → trailingZeros 32 (2 ^ 32 - 1 - s) ≡ run isOwner os
+  free-leading : length os ≡ 8 → s ≡ setOf (isBetween 1 8) os → trailingZeros 32 (2 ^ 32 - 1 - s) ≡ leading isOwner os
   unfolding isOwner isBetween
-  free-run l e = ap (λ (k : ℕ). trailingZeros 32 (2 ^ 32 - 1 - k)) e ∙ trailing-run (isBetween 1 8) 32 os (omega arith)
+  free-leading l e = ap (λ (k : ℕ). trailingZeros 32 (2 ^ 32 - 1 - k)) e ∙ trailing-leading (isBetween 1 8) 32 os (omega arith)
 
   pub free-ones : length os ≡ 8 → s ≡ setOf (isBetween 1 8) os → trailingZeros 32 (2 ^ 32 - 1 - s) + 1 ≡ lowestFree os
   unfolding lowestFree
-  free-ones l e = ap (λ (k : ℕ). k + 1) (free-run l e) ∙ add-one (run isOwner os)
+  free-ones l e = ap (λ (k : ℕ). k + 1) (free-leading l e) ∙ add-one (leading isOwner os)
 
 pub lowest-few : (os : List ℕ) → length os ≡ 8 → lowestFree os ≤ 9
 unfolding lowestFree
-lowest-few os l = omega (arith, run-le isOwner os)
+lowest-few os l = omega (arith, leading-le isOwner os)
 
 pub lowest-some : (os : List ℕ) → 1 ≤ lowestFree os
 unfolding lowestFree

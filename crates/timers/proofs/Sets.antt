@@ -14,7 +14,7 @@ use lib.Seq.{drop-cons}
 use lib.Pow.{pow-pos}
 use lib.Count.{ones, ones-step, trailingZeros, under}
 use Rattle.lists.specs.Tests.{if_then_else_, _==_}
-use Rattle.lists.specs.Lists.{count, run}
+use Rattle.lists.specs.Lists.{count, leading}
 use Rattle.lists.proofs.Bits.{trailing-more}
 use Rattle.timers.specs.Sets.{bit, isBetween, setOf}
 
@@ -69,23 +69,23 @@ module _ (p : ℕ → Bool) where
       ones-step _ ∙ ap₂ (λ (x y : ℕ). x + ones y) low high ∙ ap (λ (n : ℕ). bit (p o) + n) (ones-count os) ∙ counted (p o) (count p os)
 
   -- as many low bits are set, up to the first that is clear, as elements at the front pass
-  pub trailing-run : (k : ℕ) (l : List ℕ) → length l ≤ k → trailingZeros k (2 ^ k - 1 - setOf p l) ≡ run p l
-  unfolding setOf run trailingZeros
-  trailing-run zero [] h = refl
-  trailing-run zero (o ∷ os) h = absurd (omega arith)
-  trailing-run (suc k) [] h =
+  pub trailing-leading : (k : ℕ) (l : List ℕ) → length l ≤ k → trailingZeros k (2 ^ k - 1 - setOf p l) ≡ leading p l
+  unfolding setOf leading trailingZeros
+  trailing-leading zero [] h = refl
+  trailing-leading zero (o ∷ os) h = absurd (omega arith)
+  trailing-leading (suc k) [] h =
       let low : (2 ^ suc k - 1 - 0) % 2 ≡ 1 = omega (arith, pow-suc 2 k, pow-pos k) in
       ap (λ (d : ℕ). under d (trailingZeros k ((2 ^ suc k - 1 - 0) / 2))) low
-  trailing-run (suc k) (o ∷ os) h =
+  trailing-leading (suc k) (o ∷ os) h =
       let fits = le-of-suc-le-suc h in
-      trailing-more (p o) k (setOf p os) (run p os) (set-lt os k fits) (trailing-run k os fits)
+      trailing-more (p o) k (setOf p os) (leading p os) (set-lt os k fits) (trailing-leading k os fits)
 
-  pub run-le : (l : List ℕ) → run p l ≤ length l
-  unfolding run
-  run-le [] = omega arith
-  run-le (o ∷ os) = go (p o) (run-le os)
+  pub leading-le : (l : List ℕ) → leading p l ≤ length l
+  unfolding leading
+  leading-le [] = omega arith
+  leading-le (o ∷ os) = go (p o) (leading-le os)
     where
-      go : (b : Bool) → run p os ≤ length os → (if b then suc (run p os) else 0) ≤ suc (length os)
+      go : (b : Bool) → leading p os ≤ length os → (if b then suc (leading p os) else 0) ≤ suc (length os)
       go true h = omega arith
       go false h = omega arith
 

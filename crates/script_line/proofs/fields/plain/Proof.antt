@@ -4,7 +4,7 @@ use native.Mathlib.Omega.{arith}
 use mathlib.Core.Path.{sym, _∙_}
 use Rattle.script_line.specs.Words.{byteOf}
 use Rattle.script_line.specs.Records.{took}
-use Rattle.script_line.proofs.WordLaws.{run-more}
+use Rattle.script_line.proofs.WordLaws.{leading-more}
 use Rattle.script_line.proofs.LineLaws.{at-word}
 use Rattle.script_line.proofs.ByteLaws.{plain-full, plain-on, plain-bad}
 use borrow.Author.Needs.{needs}
@@ -59,7 +59,7 @@ returns-2 c =
     record {
       free = c .before .before .put .ensures .0;
       few = search needs;
-      past = omega (arith, e .0, run-more (s .args .line .now) (w .within) (w .starts));
+      past = omega (arith, e .0, leading-more (s .args .line .now) (w .within) (w .starts));
       within = e .1;
       on = plain-on (s .args .limit) (took (s .args .n) (s .args .out .now)) (s .args .line .now) (s .pre .0) v (λ k. c .before .before .before .before .if1 .left (sym (s .pre .1 .counted) ∙ k)) (e .0) (c .before .before .put .ensures .1);
     }

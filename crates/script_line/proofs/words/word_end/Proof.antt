@@ -4,15 +4,15 @@ use Prim.Native.Nat.{_+_, _-_, _≤_}
 use native.Mathlib.Omega.{arith}
 use mathlib.Core.Path.{_≡_, sym, _∙_}
 use lib.ListN.{length, drop}
-use Rattle.lists.specs.Lists.{run}
+use Rattle.lists.specs.Lists.{leading}
 use Rattle.script_line.specs.Words.{inWord?}
-use Rattle.script_line.proofs.WordLaws.{run-more, run-stop, run-end, in-word-hash, in-word-yes, in-word-no}
+use Rattle.script_line.proofs.WordLaws.{leading-more, leading-stop, leading-end, in-word-hash, in-word-yes, in-word-no}
 use borrow.Author.Needs.{needs}
 use Rattle.script_line.proofs.words.word_end.Statement.{statement}
 use Rattle.script_line.proofs.words.word_end.Tie as tie
 
 abbrev Inv-loop : tie.InvT-loop
-Inv-loop line from at₀ at = (at ≤ length line) × (at + run inWord? (drop at line) ≡ from + run inWord? (drop from line))
+Inv-loop line from at₀ at = (at ≤ length line) × (at + leading inWord? (drop at line) ≡ from + leading inWord? (drop from line))
 
 abbrev μ-loop : tie.MeasureT-loop
 μ-loop line from at₀ at = length line - at
@@ -27,7 +27,7 @@ returns : tie.Need-returns Inv-loop μ-loop
 returns c =
     let l = c .before .before .before in
     let s = l .before .before .args .line .now in
-    (omega (arith, l .loop .inv .1, run-stop s {at = l .loop .at} (search needs) (in-word-hash _ (c .if1 .taken))), search needs)
+    (omega (arith, l .loop .inv .1, leading-stop s {at = l .loop .at} (search needs) (in-word-hash _ (c .if1 .taken))), search needs)
 
 is-space-requires : tie.Need-is-space-requires Inv-loop μ-loop
 is-space-requires c κs = search needs
@@ -36,7 +36,7 @@ returns-2 : tie.Need-returns-2 Inv-loop μ-loop
 returns-2 c =
     let l = c .before .before .before .before .before in
     let s = l .before .before .args .line .now in
-    (omega (arith, l .loop .inv .1, run-stop s {at = l .loop .at} (search needs) (in-word-no _ (c .before .before .if1 .left) (sym (c .before .is-space .ensures) ∙ c .if2 .taken))), search needs)
+    (omega (arith, l .loop .inv .1, leading-stop s {at = l .loop .at} (search needs) (in-word-no _ (c .before .before .if1 .left) (sym (c .before .is-space .ensures) ∙ c .if2 .taken))), search needs)
 
 add-at : tie.Need-add-at Inv-loop μ-loop
 add-at c = search needs
@@ -48,12 +48,12 @@ loop-again : tie.Need-loop-again Inv-loop μ-loop
 loop-again c =
     let l = c .before .before .before .before .before in
     let s = l .before .before .args .line .now in
-    (search needs, omega (arith, l .loop .inv .1, run-more s {at = l .loop .at} (search needs) (in-word-yes _ (c .before .before .if1 .left) (sym (c .before .is-space .ensures) ∙ c .if2 .left))))
+    (search needs, omega (arith, l .loop .inv .1, leading-more s {at = l .loop .at} (search needs) (in-word-yes _ (c .before .before .if1 .left) (sym (c .before .is-space .ensures) ∙ c .if2 .left))))
 
 returns-3 : tie.Need-returns-3 Inv-loop μ-loop
 returns-3 c =
     let l = c .before in
-    (omega (arith, l .loop .inv .1, run-end (l .before .before .args .line .now) {at = l .loop .at} (search needs)), search needs)
+    (omega (arith, l .loop .inv .1, leading-end (l .before .before .args .line .now) {at = l .loop .at} (search needs)), search needs)
 
 pub word-end-spec : {M : Type 1} → statement M
 word-end-spec =
