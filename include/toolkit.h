@@ -294,7 +294,7 @@ struct toolkit_answer toolkit_response(struct toolkit_card *card);
    occurrence, counted from 1. */
 struct toolkit_spot toolkit_find(const void *run, size_t run_len, uint16_t tag, size_t occurrence);
 
-/* Where the handler's content stands in an envelope: what follows its length. Of one that is malformed it is the empty part at its end. */
+/* Where the handler's content stands in an envelope: what follows its length. One that is malformed has none. */
 struct toolkit_spot toolkit_content(const void *envelope, size_t envelope_len);
 
 /* Reads back a menu that a card has written. Refusal 1. */

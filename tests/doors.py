@@ -2,7 +2,6 @@
 
 import struct
 
-import model
 from model import CALL_CONTROL_EVENT
 
 CALLS = ["install", "delete", "lock", "unlock", "set_event", "clear_event", "ask_event", "new_entry", "change_entry", "enable_entry",
@@ -93,9 +92,3 @@ def menu_bytes(answer):
 
 def spot_bytes(part):
     return struct.pack("<QQB", part.start, part.length, part.yes)
-
-
-def content_bytes(data):
-    """The content is a part of every envelope; that of a malformed one is empty and stands at its end."""
-    part = model.content(data)
-    return struct.pack("<QQB", part.start if part.yes else len(data), part.length, True)

@@ -1,4 +1,4 @@
--- Laws of a turn: nothing read leaves the program where it stands, and a piece leaves it as `pieces` says.
+-- Laws of a turn: nothing read leaves the program where it stands, and a piece leaves it as `floor_records` says.
 -- Assumes nothing.
 use Prim.Native.Nat.{ℕ, _≤_}
 use native.Mathlib.Omega.{arith}

@@ -1,5 +1,5 @@
 // The floor program: obeys the records on standard input and writes a line for each.
-// What its turns write is proved in `pieces`; here bytes are moved.
+// What its turns write is proved in `floor_records`; here bytes are moved.
 use card::Card;
 use floor_records::obey_all;
 use libc::STDIN_FILENO;

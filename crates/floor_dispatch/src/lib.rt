@@ -1,5 +1,5 @@
 // The card's calls by what a record of the floor program asks for, with an applet and bytes.
-// What a record asks for stands in `asks`, what a call does and answers in `rules`.
+// What a record asks for stands in `floor_calls`, what a call does and answers in `rules`.
 pub mod deeds;
 pub mod gifts;
 pub mod naming;

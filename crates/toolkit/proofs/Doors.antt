@@ -1,4 +1,4 @@
--- How a door is made for the walk (`lent`, Walk.antt): of a call on a card, and of one on a bank alone.
+-- How a door is made for the walk (`lent_calls`, Walk.antt): of a call on a card, and of one on a bank alone.
 -- Assumes nothing.
 use mathlib.Core.Path.{_≡_, sym, ap, subst, _∙_}
 use mathlib.Core.List.{[], _∷_, List}

@@ -1,4 +1,4 @@
--- `toolkit::toolkit_bank_release` meets its contract: the walk of a lent call (`lent`, Walk.antt), at `timers::release`.
+-- `toolkit::toolkit_bank_release` meets its contract: the walk of a lent call (`lent_calls`, Walk.antt), at `timers::release`.
 -- Assumes nothing.
 use mathlib.Core.Path.{refl}
 use Rattle.timers.specs.Promises.{Releases}

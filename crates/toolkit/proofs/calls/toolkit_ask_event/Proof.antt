@@ -1,4 +1,4 @@
--- `toolkit::calls::toolkit_ask_event` meets its contract: the walk of a lent call (`lent`, Walk.antt), at `Card::ask_event`.
+-- `toolkit::calls::toolkit_ask_event` meets its contract: the walk of a lent call (`lent_calls`, Walk.antt), at `Card::ask_event`.
 -- Assumes nothing.
 use mathlib.Core.Path.{refl}
 use mathlib.Core.List.{[], _∷_}

@@ -1,4 +1,4 @@
--- `toolkit::calls::toolkit_disable_entry` meets its contract: the walk of a lent call (`lent`, Walk.antt), at `Card::disable_entry`.
+-- `toolkit::calls::toolkit_disable_entry` meets its contract: the walk of a lent call (`lent_calls`, Walk.antt), at `Card::disable_entry`.
 -- Assumes nothing.
 use mathlib.Core.Path.{refl}
 use mathlib.Core.List.{[], _∷_}

@@ -1,4 +1,4 @@
--- `toolkit::calls::toolkit_send` meets its contract: the walk of a lent call (`lent`, Walk.antt), at `Card::send`.
+-- `toolkit::calls::toolkit_send` meets its contract: the walk of a lent call (`lent_calls`, Walk.antt), at `Card::send`.
 -- Assumes nothing.
 use mathlib.Core.Path.{refl}
 use mathlib.Core.List.{[], _∷_}

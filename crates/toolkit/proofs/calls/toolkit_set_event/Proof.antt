@@ -1,4 +1,4 @@
--- `toolkit::calls::toolkit_set_event` meets its contract: the walk of a lent call (`lent`, Walk.antt), at `Card::set_event`.
+-- `toolkit::calls::toolkit_set_event` meets its contract: the walk of a lent call (`lent_calls`, Walk.antt), at `Card::set_event`.
 -- Assumes nothing.
 use mathlib.Core.Path.{refl}
 use mathlib.Core.List.{[], _∷_}

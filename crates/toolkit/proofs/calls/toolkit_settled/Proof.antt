@@ -1,4 +1,4 @@
--- `toolkit::calls::toolkit_settled` meets its contract: the walk of a lent call (`lent`, Walk.antt), at `Card::settled`.
+-- `toolkit::calls::toolkit_settled` meets its contract: the walk of a lent call (`lent_calls`, Walk.antt), at `Card::settled`.
 -- Assumes nothing.
 use mathlib.Core.Path.{refl}
 use mathlib.Core.List.{[]}

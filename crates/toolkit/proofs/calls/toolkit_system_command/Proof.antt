@@ -1,4 +1,4 @@
--- `toolkit::calls::toolkit_system_command` meets its contract: a walk of its code, by hand, as a lent call's (`lent`, Walk.antt), but that the lent buffer goes to the method
+-- `toolkit::calls::toolkit_system_command` meets its contract: a walk of its code, by hand, as a lent call's (`lent_calls`, Walk.antt), but that the lent buffer goes to the method
 -- for good, at its own lifetime, share and ghost name (`gave-slice`). Assumes nothing.
 use mathlib.Core.Path.{_≡_, refl}
 use Prim.Native.Nat.{ℕ}
