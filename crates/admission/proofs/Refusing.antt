@@ -21,7 +21,7 @@ use Rattle.rules.specs.Holds.{Applet, Bounds, Tables, document}
 use Rattle.rules.specs.Applets.{isNumber, entries, lookedAt, outOfRange, requested, tooMany, clash}
 use Rattle.rules.specs.Rows.{noPair}
 use Rattle.rules.specs.Calls.{install}
-use Rattle.rules.specs.Refusals.{Line, line, adminLines, lowest}
+use Rattle.rules.specs.Refusals.{Line, line, adminLines, firstHolding}
 use Rattle.runs.specs.Sound.{SoundTables}
 use Rattle.applets.specs.ByNumber.{at, grantOf, rollOf}
 use Rattle.applets.proofs.Numbers.{some-by, sum-by, present-in}
@@ -54,7 +54,7 @@ module _ (t : Tables) (s : SoundTables t) (e : t .bounds ≡ document) where
       ∙ sym (some-by t s e (λ (x : Applet). in? i (requested (x .limits .pairs))) (unfold requested keep some? in refl))
       ∙ sym (some-gather (λ k. k == i) (λ (x : Applet). requested (x .limits .pairs)) (t .applets))
 
-  lines-are : (n : ℕ) (q : Request) → lowest (linesBy (rollOf (t .applets)) n q) ≡ lowest (adminLines t (install n q))
+  lines-are : (n : ℕ) (q : Request) → firstHolding (linesBy (rollOf (t .applets)) n q) ≡ firstHolding (adminLines t (install n q))
   unfolding linesBy adminLines tooMany clash rollOf
   lines-are n q =
       five
@@ -64,11 +64,11 @@ module _ (t : Tables) (s : SoundTables t) (e : t .bounds ≡ document) where
       (ap (λ (k : ℕ). 12 <? k + q .entries) limits-are ∙ ap (λ (b : Bounds). b .rows <? sum entries (t .applets) + q .entries) (sym e))
       (repeats-alike (requested (lookedAt q)) (taken grants) _ asked)
     where
-      five : {a b c d f k l m o p : Bool} → a ≡ k → b ≡ l → c ≡ m → d ≡ o → f ≡ p → lowest (line 2 a ∷ line 3 b ∷ line 4 c ∷ line 5 d ∷ line 6 f ∷ []) ≡ lowest (line 2 k ∷ line 3 l ∷ line 4 m ∷ line 5 o ∷ line 6 p ∷ [])
+      five : {a b c d f k l m o p : Bool} → a ≡ k → b ≡ l → c ≡ m → d ≡ o → f ≡ p → firstHolding (line 2 a ∷ line 3 b ∷ line 4 c ∷ line 5 d ∷ line 6 f ∷ []) ≡ firstHolding (line 2 k ∷ line 3 l ∷ line 4 m ∷ line 5 o ∷ line 6 p ∷ [])
       five u v w x y = rw (u, v, w, x, y) refl
 
-pub refusing : (s : Roll) (n : ℕ) (q : Request) {r : ℕ} → r ≡ lowest (linesBy s n q) → RefusesInstall s n q r
-refusing s n q r t sound e is = r ∙ ap (λ (k : Roll). lowest (linesBy k n q)) is ∙ lines-are t sound e n q
+pub refusing : (s : Roll) (n : ℕ) (q : Request) {r : ℕ} → r ≡ firstHolding (linesBy s n q) → RefusesInstall s n q r
+refusing s n q r t sound e is = r ∙ ap (λ (k : Roll). firstHolding (linesBy k n q)) is ∙ lines-are t sound e n q
 
 -- the tests of the lines, by what the code asks
 pub number-zero : (n : ℕ) → n ≡ 0 → not (isNumber document n) ≡ true

@@ -12,14 +12,14 @@ use Rattle.rules.specs.declared.Roll.{Roll}
 use Rattle.rules.specs.Holds.{Tables, document}
 use Rattle.rules.specs.Applets.{requested}
 use Rattle.rules.specs.Calls.{install}
-use Rattle.rules.specs.Refusals.{adminLines, lowest}
+use Rattle.rules.specs.Refusals.{adminLines, firstHolding}
 use Rattle.runs.specs.Sound.{SoundTables}
 use Rattle.applets.specs.ByNumber.{rollOf}
 
 -- r is the number that the table of refusals gives for all sound tables with document 01's bounds whose applets have this roll
 abbrev pub RefusesInstall : Roll → (number : ℕ) → Request → (r : ℕ) → Type 0
 RefusesInstall s n q r =
-    (t : Tables) → SoundTables t → t .bounds ≡ document → s ≡ rollOf (t .applets) → r ≡ lowest (adminLines t (install n q))
+    (t : Tables) → SoundTables t → t .bounds ≡ document → s ≡ rollOf (t .applets) → r ≡ firstHolding (adminLines t (install n q))
 
 -- an applet's entry limit, by what it was installed with
 abbrev pub limit : Grant → ℕ

@@ -12,7 +12,7 @@ use rules::Rows;
 ghost use mathlib.Core.Path.{_≡_};
 ghost use mathlib.Core.List.{[], _∷_};
 ghost use Rattle.rules.specs.Arrivals.{responds, envelopeMarks, otherMarks};
-ghost use Rattle.rules.specs.Refusals.{line, lowest};
+ghost use Rattle.rules.specs.Refusals.{line, firstHolding};
 ghost use Rattle.rules.specs.Held.{viewRows, TidyRows};
 ghost use Rattle.arrivals.specs.Whom.{ForCode, ForEnvelope, calledSet};
 ghost use Rattle.arrivals.specs.Answers.{answering, Begins};
@@ -59,7 +59,7 @@ pub fn whom(e: Envelope, rows: Rows, registered: [u8; Kind::EVENTS], bank: Bank,
 
 // The refusal of an arrival that one line of the table lists: its number if it holds; else 0.
 pub fn refusal_if(holds: bool, number: u8) -> u8
-    ensures { λ r. ⌜ r ≡ lowest (line number holds ∷ []) ⌝ }
+    ensures { λ r. ⌜ r ≡ firstHolding (line number holds ∷ []) ⌝ }
 {
     if holds {
         return number;

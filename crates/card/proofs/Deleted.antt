@@ -23,7 +23,7 @@ use Rattle.rules.specs.Rows.{withoutRows}
 use Rattle.rules.specs.Timers.{withoutTimers}
 use Rattle.rules.specs.Calls.{admin, delete, accepted, refusedWith}
 use Rattle.rules.specs.Desk.{menuChanges, eventsChange, marked}
-use Rattle.rules.specs.Refusals.{lines, lowest, adminLines, refusal}
+use Rattle.rules.specs.Refusals.{lines, firstHolding, adminLines, refusal}
 use Rattle.rules.specs.Step.{step, tablesAfter, adminTables, deskAfter, answer}
 use Rattle.rules.proofs.DueMarks.{marked-same}
 use Rattle.runs.specs.Sound.{SoundApplet, SoundTables}
@@ -72,7 +72,7 @@ module _ (c : Card) (left : Left c) (n : ℕ) (there : has? (c .roll .present) n
       every-so (SoundApplet (t .bounds)) _ (λ x s. (s .number-from, omega (arith, s .number-to, eight))) (t .applets) (sound .each-applet)
 
   none-refused : refusal m (admin (delete n)) ≡ 0
-  unfolding refusal lines adminLines lowest
+  unfolding refusal lines adminLines firstHolding
   none-refused = rw (not-absent t sound n here) refl
 
   bounds-same : u .bounds ≡ document
@@ -157,7 +157,7 @@ module _ (c : Card) (left : Left c) (n : ℕ) (there : has? (c .roll .present) n
 -- DELETE, by what the parts of the code say
 module _ (c : Card) (left : Left c) (n : ℕ) {there : Bool} (found : there ≡ has? (c .roll .present) n) {r : ℕ} (refused : r ≡ (if not there then 2 else 0)) where
   refusal-is : r ≡ refusal (view c) (admin (delete n))
-  unfolding refusal lines adminLines lowest
+  unfolding refusal lines adminLines firstHolding
   refusal-is = refused ∙ rw (gone-by c left n found) refl
 
   still : deskAfter (view c) (admin (delete n)) ≡ view c .desk

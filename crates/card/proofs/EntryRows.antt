@@ -25,7 +25,7 @@ use Rattle.rules.specs.Applets.{nobody, present, applet}
 use Rattle.rules.specs.Rows.{itsRow, withText, withEnabled}
 use Rattle.rules.specs.Desk.{menuChanges, eventsChange, marked}
 use Rattle.rules.specs.Calls.{EntryCall, entry, changeEntry, accepted, refusedWith}
-use Rattle.rules.specs.Refusals.{line, lowest, refusal}
+use Rattle.rules.specs.Refusals.{line, firstHolding, refusal}
 use Rattle.rules.specs.Step.{step, outcome, changed, tablesAfter, deskAfter, entryTables, answer, entryAnswer}
 use Rattle.runs.specs.Sound.{SoundRow, SoundTables}
 use Rattle.runs.proofs.Looked.{sound-applet, number-from, number-to}
@@ -134,14 +134,14 @@ module _ (c : Card) (left : Left c) (n : ℕ) (y : EntryCall) {r : ℕ} (e : r �
         ∙ ap stored (sym (entry-after c left y e z)))
 
 -- what acceptance says
-two-lines : (there its : Bool) → lowest (line 2 (not there) ∷ line 11 (not its) ∷ []) ≡ 0 → its ≡ true
-unfolding lowest
+two-lines : (there its : Bool) → firstHolding (line 2 (not there) ∷ line 11 (not its) ∷ []) ≡ 0 → its ≡ true
+unfolding firstHolding
 two-lines true true h = refl
 two-lines true false h = absurd (omega arith)
 two-lines false its h = absurd (omega arith)
 
-three-lines : (there its fits : Bool) → lowest (line 2 (not there) ∷ line 11 (not its) ∷ line 12 (not fits) ∷ []) ≡ 0 → (its ≡ true) × (fits ≡ true)
-unfolding lowest
+three-lines : (there its fits : Bool) → firstHolding (line 2 (not there) ∷ line 11 (not its) ∷ line 12 (not fits) ∷ []) ≡ 0 → (its ≡ true) × (fits ≡ true)
+unfolding firstHolding
 three-lines true true true h = (refl, refl)
 three-lines true true false h = absurd (omega arith)
 three-lines true false fits h = absurd (omega arith)
@@ -161,7 +161,7 @@ turn-answer t n i false = refl
 module _ (c : Card) (left : Left c) (n i : ℕ) (on : Bool) {there : Bool} (found : there ≡ has? (c .roll .present) n)
     {shown x : Bool} (sh : shown ≡ has? (c .selectable) n) {w : Touched} (is : w ≡ markedBy n i on (viewRows (c .rows)))
     (due : x ≡ (c .desk .session && (shown && w .turns) || c .desk .due .menu))
-    {r : ℕ} (e : r ≡ lowest (line 2 (not there) ∷ line 11 (not (w .its)) ∷ [])) {a : Answer} (says : a ≡ storedAnswer (refusedWith r))
+    {r : ℕ} (e : r ≡ firstHolding (line 2 (not there) ∷ line 11 (not (w .its)) ∷ [])) {a : Answer} (says : a ≡ storedAnswer (refusedWith r))
   where
     its-is : w .its ≡ some? (itsRow n i) (view c .tables .rows)
     unfolding view
@@ -181,7 +181,7 @@ module _ (c : Card) (left : Left c) (n i : ℕ) (on : Bool) {there : Bool} (foun
             let here = owner-there t s n i q in
             let so = is ∙ its-marked (t .rows) n i (s .identifiers-apart) q on in
             rows-changed c left n (turning on n i) is-turned (turn-answer t n i on) says sh w due
-            (e ∙ rw (found ∙ present-by c left n ∙ here, its-is ∙ q) (unfold lowest in refl))
+            (e ∙ rw (found ∙ present-by c left n ∙ here, its-is ∙ q) (unfold firstHolding in refl))
             (withEnabled n i on (t .rows)) here (turn-tables t n i on)
             (enabled-shows t s n i q on ∙ ap (λ (b : Bool). applet t n .selectable && b) (sym (ap (λ (k : Touched). k .turns) so)))
             (ap (λ (k : Touched). k .rows) so)
@@ -197,7 +197,7 @@ module _ (c : Card) (left : Left c) (n i : ℕ) (help : Bool) (text : List ℕ) 
     {shown x : Bool} (sh : shown ≡ has? (c .selectable) n) {g : Grant} (granted : g ≡ byNumber (grantOf nobody) (c .roll .grants) n)
     {fits : Bool} (fit : fits ≡ not (unfitText (g .text) text)) {w : Touched} (is : w ≡ rewordedBy n i fits help text (viewRows (c .rows)))
     (due : x ≡ (c .desk .session && (shown && w .turns) || c .desk .due .menu))
-    {r : ℕ} (e : r ≡ lowest (line 2 (not there) ∷ line 11 (not (w .its)) ∷ line 12 (not fits) ∷ [])) {a : Answer} (says : a ≡ storedAnswer (refusedWith r))
+    {r : ℕ} (e : r ≡ firstHolding (line 2 (not there) ∷ line 11 (not (w .its)) ∷ line 12 (not fits) ∷ [])) {a : Answer} (says : a ≡ storedAnswer (refusedWith r))
   where
     row-is : w .its ≡ some? (itsRow n i) (view c .tables .rows)
     unfolding view
@@ -239,7 +239,7 @@ module _ (c : Card) (left : Left c) (n i : ℕ) (help : Bool) (text : List ℕ) 
 
         go : (b f : Bool) → some? (itsRow n i) l ≡ b → fits ≡ f → Changes
         go true true q p =
-            made-so (e ∙ rw (found ∙ present-by c left n ∙ owner-there (view c .tables) (left-sound c left .tables) n i q, row-is ∙ q, p) (unfold lowest in refl)) q
+            made-so (e ∙ rw (found ∙ present-by c left n ∙ owner-there (view c .tables) (left-sound c left .tables) n i q, row-is ∙ q, p) (unfold firstHolding in refl)) q
             (is ∙ ap (λ (f : Bool). rewordedBy n i f help text l) p)
         go true false q p =
             let so = is ∙ ap (λ (f : Bool). rewordedBy n i f help text l) p ∙ kept-reworded l n i help text in

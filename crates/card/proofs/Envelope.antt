@@ -15,7 +15,7 @@ use Rattle.rules.specs.Held.{viewRows, viewDesk}
 use Rattle.rules.specs.Envelopes.{envelopeOf, badEnvelope}
 use Rattle.rules.specs.Arrivals.{called, arrivalOf, envelopeMarks}
 use Rattle.rules.specs.Calls.{Call, arrival, envelope, calling}
-use Rattle.rules.specs.Refusals.{line, lowest, lines, arrivalLines, refusal}
+use Rattle.rules.specs.Refusals.{line, firstHolding, lines, arrivalLines, refusal}
 use Rattle.rules.specs.Step.{step, tablesAfter, deskAfter, arrivalDesk, answer, arrivalAnswer}
 use Rattle.applets.specs.declared.Callees.{Callees}
 use Rattle.applets.specs.Rolls.{calleesOf}
@@ -41,7 +41,7 @@ module _ (c : Card) (left : Left c) (bytes : List ℕ) where
   unfolding tablesAfter deskAfter arrivalDesk
   envelope-stays = stays c left it refl refl
 
-  refusal-is : lowest (line 1 (badEnvelope (envelopeOf bytes)) ∷ []) ≡ refusal m it
+  refusal-is : firstHolding (line 1 (badEnvelope (envelopeOf bytes)) ∷ []) ≡ refusal m it
   unfolding refusal lines arrivalLines
   refusal-is = refl
 
@@ -54,7 +54,7 @@ module _ (c : Card) (left : Left c) (bytes : List ℕ) where
       : {e : Envelope} {bad : Bool} {r w s : ℕ} {k : Callees} {marks : Marks} {b : Answer}
       → e ≡ envelopeOf bytes
       → bad ≡ badEnvelope e
-      → r ≡ lowest (line 1 bad ∷ [])
+      → r ≡ firstHolding (line 1 bad ∷ [])
       → ForEnvelope (viewRows (c .rows)) (c .registered) (c .bank .owner) (c .control) e w
       → s ≡ calledSet r w (c .selectable)
       → k ≡ calleesOf (keep (has? s) (take (c .roll .count) (c .roll .order)))
@@ -63,7 +63,7 @@ module _ (c : Card) (left : Left c) (bytes : List ℕ) where
       → _≡_ {A = Reply} (record { card = c; answer = b }) (replied (step m it))
   unfolding step view
   comes {e} {r = r} {k = k} i x n f p q g h =
-      let is : r ≡ refusal m it = n ∙ ap (λ (b : Bool). lowest (line 1 b ∷ [])) (x ∙ ap badEnvelope i) ∙ refusal-is in
+      let is : r ≡ refusal m it = n ∙ ap (λ (b : Bool). firstHolding (line 1 b ∷ [])) (x ∙ ap badEnvelope i) ∙ refusal-is in
       let for-it = f (m .tables) (left-sound c left .tables) refl (registered-form c left) refl refl in
       replies (step m it) envelope-stays
       (answers c left (arrivalOf (envelopeOf bytes)) (envelope-as (m .tables) (sym i) for-it) it (envelopeMarks (c .desk .outstanding) (envelopeOf bytes)) accepted

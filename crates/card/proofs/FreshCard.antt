@@ -18,7 +18,7 @@ use Rattle.rules.specs.declared.Rows.{Rows}
 use Rattle.rules.specs.Holds.{document, fresh, nothingDue}
 use Rattle.rules.specs.Held.{storedRows, storedDesk, storedAnswer}
 use Rattle.rules.specs.Calls.{refusedWith}
-use Rattle.rules.specs.Refusals.{line, lowest}
+use Rattle.rules.specs.Refusals.{line, firstHolding}
 use Rattle.rules.specs.Beside.{freshCard, freshBy}
 use Rattle.rules.specs.Runs.{cardAfter}
 use Rattle.refusals.proofs.Calls.{title-short}
@@ -51,7 +51,7 @@ module _ (title : List ℕ) where
   unfolding selectableSet registeredSet madeTable setOf valued numbers table first storedDesk
   fresh-is p q s = card-is (fresh document title) p refl refl refl refl q refl (rw s refl)
 
-  module _ {r n : ℕ} (e : r ≡ lowest (line 12 (20 <? length title) ∷ [])) (kept : n ≡ (if r == 0 then length title else 0)) where
+  module _ {r n : ℕ} (e : r ≡ firstHolding (line 12 (20 <? length title) ∷ [])) (kept : n ≡ (if r == 0 then length title else 0)) where
     -- what is kept of the title: all, or nothing where it is refused
     by-refusal : (k : ℕ) → r ≡ k → (n ≡ length (take n title)) × (length (take n title) ≤ 20) × (fresh document (take n title) ≡ freshBy k document title .card)
     unfolding freshBy

@@ -24,7 +24,7 @@ use Rattle.rules.specs.Held.{viewDesk, storedDesk, storedAnswer}
 use Rattle.rules.specs.Calls.{Call, systemCommand, refusedWith, numbered}
 use Rattle.rules.specs.Commands.{shownMenu, shownEvents, menuOf, menuBytes, commandBytes, detailBytes, lengthBytes, eventBytes}
 use Rattle.rules.specs.Desk.{handedOut, withMarks, dueCommand, withHandedOut}
-use Rattle.rules.specs.Refusals.{refusal, line, lines, lowest}
+use Rattle.rules.specs.Refusals.{refusal, line, lines, firstHolding}
 use Rattle.rules.specs.Step.{step, outcome, changed, tablesAfter, deskAfter, answer, front, written, lent}
 use Rattle.rules.proofs.DueMarks.{marked-same, first-due, first-handed}
 use Rattle.rules.proofs.Listed.{length-most}
@@ -143,7 +143,7 @@ handed-desk d = go (d .due .menu) (d .due .events) (d .outstanding) ∙ ap store
 -- what is handed out has room
 pub handed-room
     : (outstanding : Bool) (n : ℕ) (b : Bool) {r : ℕ} {on : Bool}
-    → r ≡ lowest (line 16 outstanding ∷ line 18 (n <? 256) ∷ [])
+    → r ≡ firstHolding (line 16 outstanding ∷ line 18 (n <? 256) ∷ [])
     → on ≡ (r == 0 && b)
     → on ≡ true
     → 256 ≤ n
@@ -194,7 +194,7 @@ module _ (c : Card) (left : Left c) where
       go true y k l = refl
       go false y k l = refl
 
-  module _ (buffer : List ℕ) {r : ℕ} (e : r ≡ lowest (line 16 (c .desk .outstanding) ∷ line 18 (length buffer <? 256) ∷ []))
+  module _ (buffer : List ℕ) {r : ℕ} (e : r ≡ firstHolding (line 16 (c .desk .outstanding) ∷ line 18 (length buffer <? 256) ∷ []))
       {menu events : Bool} (p : menu ≡ (r == 0 && (not false && c .desk .due .menu))) (q : events ≡ (r == 0 && (not (c .desk .due .menu) && c .desk .due .events)))
     where
       abbrev x : Call

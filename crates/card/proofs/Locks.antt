@@ -19,7 +19,7 @@ use Rattle.rules.specs.Held.{viewRows, storedAnswer}
 use Rattle.rules.specs.Applets.{hasNumber, present, applet}
 use Rattle.rules.specs.Calls.{AdminCall, admin, lock, unlock, accepted, refusedWith}
 use Rattle.rules.specs.Desk.{menuChanges, eventsChange, marked}
-use Rattle.rules.specs.Refusals.{lines, lowest, absent, adminLines, refusal}
+use Rattle.rules.specs.Refusals.{lines, firstHolding, absent, adminLines, refusal}
 use Rattle.rules.specs.Step.{step, tablesAfter, adminTables, deskAfter, answer}
 use Rattle.runs.proofs.Looked.{number-from, number-to}
 use Rattle.runs.proofs.Registered.{changed-sound, selectable-same}
@@ -114,7 +114,7 @@ module _ (c : Card) (left : Left c) (n : ℕ) (on : Bool) {there : Bool} (found 
   m = view c
 
   lines-are : (b : Bool) → (if absent (m .tables) n then 2 else 0) ≡ refusal m (admin (locking b n))
-  unfolding refusal lines adminLines lowest
+  unfolding refusal lines adminLines firstHolding
   lines-are true = refl
   lines-are false = refl
 

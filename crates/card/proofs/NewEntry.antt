@@ -18,7 +18,7 @@ use Rattle.rules.specs.Held.{viewRows, storedRows, storedAnswer}
 use Rattle.rules.specs.Applets.{nobody, present, applet, entries}
 use Rattle.rules.specs.Rows.{noPair, nextPair, nextIdentifier, withEntry}
 use Rattle.rules.specs.Calls.{entry, newEntry, accepted, refusedWith, numbered}
-use Rattle.rules.specs.Refusals.{line, lowest, refusal}
+use Rattle.rules.specs.Refusals.{line, firstHolding, refusal}
 use Rattle.rules.specs.Step.{step, outcome, entryTables, answer, entryAnswer}
 use Rattle.runs.specs.Sound.{SoundTables}
 use Rattle.runs.proofs.Looked.{has-its-number, sound-applet}
@@ -57,7 +57,7 @@ entered-is a n help text rows own is whole room = rw (← own, is, whole, insert
 module _ (c : Card) (left : Left c) (n : ℕ) (help : Bool) (text : List ℕ) {there : Bool} (found : there ≡ has? (c .roll .present) n)
     {g : Grant} (granted : g ≡ byNumber (grantOf nobody) (c .roll .grants) n) {k : ℕ} (counted : k ≡ byNumber 0 (c .made) n)
     {fits : Bool} (fit : fits ≡ not (unfitText (g .text) text))
-    {r : ℕ} (e : r ≡ lowest (line 2 (not there) ∷ line 10 (g .entries ≤? k) ∷ line 12 (not fits) ∷ []))
+    {r : ℕ} (e : r ≡ firstHolding (line 2 (not there) ∷ line 10 (g .entries ≤? k) ∷ line 12 (not fits) ∷ []))
   where
     abbrev t : Tables
     t = view c .tables

@@ -20,7 +20,7 @@ use Rattle.rules.specs.Events.{profileDownload}
 use Rattle.rules.specs.Arrivals.{called, profileArrival, otherMarks}
 use Rattle.rules.specs.Calls.{Call, arrival, profile, calling}
 use Rattle.rules.specs.Desk.{shownSome, withProfile}
-use Rattle.rules.specs.Refusals.{line, lowest, lines, arrivalLines, refusal}
+use Rattle.rules.specs.Refusals.{line, firstHolding, lines, arrivalLines, refusal}
 use Rattle.rules.specs.Step.{step, outcome, changed, tablesAfter, deskAfter, arrivalDesk, answer, arrivalAnswer}
 use Rattle.rules.proofs.DueMarks.{marked-same}
 use Rattle.menu_shown.specs.Chosen.{hasShownRow}
@@ -52,9 +52,9 @@ module _ (c : Card) (left : Left c) (bytes : List ℕ) where
   abbrev it : Call
   it = arrival (profile bytes)
 
-  refusal-is : lowest (line 1 (length bytes == 0) ∷ []) ≡ refusal m it
+  refusal-is : firstHolding (line 1 (length bytes == 0) ∷ []) ≡ refusal m it
   unfolding refusal lines arrivalLines
-  refusal-is = ap (λ (b : Bool). lowest (line 1 b ∷ [])) (no-bytes bytes)
+  refusal-is = ap (λ (b : Bool). firstHolding (line 1 b ∷ [])) (no-bytes bytes)
 
   accepted : answer m it ≡ calling (called (m .tables) profileArrival) (otherMarks false)
   unfolding answer arrivalAnswer arrivalDesk withProfile
@@ -79,7 +79,7 @@ module _ (c : Card) (left : Left c) (bytes : List ℕ) where
   -- PROFILE, by what the parts of the code say
   module _
       {r s : ℕ} {k : Callees} {marks : Marks} {b : Answer}
-      (e : r ≡ lowest (line 1 (length bytes == 0) ∷ []))
+      (e : r ≡ firstHolding (line 1 (length bytes == 0) ∷ []))
       (p : s ≡ calledSet r (getD (c .registered) profileDownload 0) (c .selectable))
       (q : k ≡ calleesOf (keep (has? s) (take (c .roll .count) (c .roll .order))))
       (g : marks ≡ otherMarks false)

@@ -16,7 +16,7 @@ use Rattle.rules.specs.Held.{viewDesk, storedDesk, storedAnswer}
 use Rattle.rules.specs.Envelopes.{commandOf}
 use Rattle.rules.specs.Calls.{ProactiveCall, proactive, send, response, accepted, refusedWith}
 use Rattle.rules.specs.Desk.{withOutstanding}
-use Rattle.rules.specs.Refusals.{refusal, line, lines, lowest, proactiveLines}
+use Rattle.rules.specs.Refusals.{refusal, line, lines, firstHolding, proactiveLines}
 use Rattle.rules.specs.Step.{step, outcome, changed, tablesAfter, deskAfter, proactiveDesk, answer}
 use Rattle.rules.proofs.DueMarks.{marked-same}
 use Rattle.refusals.specs.Lines.{sendRefusal}
@@ -72,7 +72,7 @@ module _ (c : Card) (l : Left c) where
 
   -- RESPONSE
   pub responds : {r : ℕ} {b : Bool} {a : Answer}
-      → r ≡ lowest (line 19 (not (c .desk .outstanding)) ∷ [])
+      → r ≡ firstHolding (line 19 (not (c .desk .outstanding)) ∷ [])
       → b ≡ (if r == 0 then false else c .desk .outstanding)
       → a ≡ storedAnswer (refusedWith r)
       → _≡_ {A = Reply} (record { card = withDesk c (waiting (c .desk) b); answer = a }) (replied (step m (proactive response)))

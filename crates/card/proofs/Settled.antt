@@ -23,7 +23,7 @@ use Rattle.rules.specs.Applets.{usedUp}
 use Rattle.rules.specs.Arrivals.{called, settledArrival, otherMarks}
 use Rattle.rules.specs.Calls.{settled, calling}
 use Rattle.rules.specs.Desk.{marked}
-use Rattle.rules.specs.Refusals.{line, lowest, lines, refusal}
+use Rattle.rules.specs.Refusals.{line, firstHolding, lines, refusal}
 use Rattle.rules.specs.Step.{step, tablesAfter, deskAfter, answer}
 use Rattle.menu_shown.proofs.MenuByApplets.{settled-menu}
 use Rattle.events_shown.proofs.Quiet.{settled-events}
@@ -99,7 +99,7 @@ module _ (c : Card) (left : Left c) where
       (sym (menu-same (m .tables))) (sym (events-none (m .tables)))
       (unmarked (c .desk .session) (c .desk .due .menu)) (unmarked (c .desk .session) (c .desk .due .events)))
 
-  refusal-is : lowest (line 16 (c .desk .outstanding) ∷ []) ≡ refusal m settled
+  refusal-is : firstHolding (line 16 (c .desk .outstanding) ∷ []) ≡ refusal m settled
   unfolding refusal lines view viewDesk
   refusal-is = refl
 
@@ -114,7 +114,7 @@ module _ (c : Card) (left : Left c) where
   -- SETTLED, by what the parts of the code say
   pub settles
       : {r s o : ℕ} {k : Callees} {marks : Marks} {b : Answer}
-      → r ≡ lowest (line 16 (c .desk .outstanding) ∷ [])
+      → r ≡ firstHolding (line 16 (c .desk .outstanding) ∷ [])
       → s ≡ calledSet r waiting (c .selectable)
       → o ≡ setWithout waiting s
       → k ≡ calleesOf (keep (has? s) (take (c .roll .count) (c .roll .order)))

@@ -18,7 +18,7 @@ use Rattle.rules.specs.Commands.{selectable}
 use Rattle.rules.specs.Calls.{timer, allocate, release}
 use Rattle.rules.specs.Beside.{BankOutcome, bankAllocate, allocateBy, bankRelease, releaseBy}
 use Rattle.rules.specs.Desk.{marked}
-use Rattle.rules.specs.Refusals.{refusal, lines, lowest, timerLines, absent}
+use Rattle.rules.specs.Refusals.{refusal, lines, firstHolding, timerLines, absent}
 use Rattle.rules.specs.Step.{step, outcome, changed, tablesAfter, deskAfter, timerTables, answer, timerAnswer}
 use Rattle.timers.specs.Promises.{Allocates, Releases}
 use Rattle.menu_shown.proofs.MenuByApplets.{kept-menu}
@@ -75,7 +75,7 @@ module _ (c : Card) (l : Left c) where
       limit-is = ap (λ (x : Grant). x .timers) (grant ∙ grant-is c l n)
 
       by-bank : (b : Bool) → there ≡ b → bankAllocate os (if b then n else 0) (g .timers) ≡ allocateBy (refusal m (timer (allocate n))) os n
-      unfolding bankAllocate refusal lines timerLines lowest view
+      unfolding bankAllocate refusal lines timerLines firstHolding view
       by-bank true h = rw (owns h, gone, h, limit-is) refl
       by-bank false h = unfold isOwner allocateBy in rw (gone, h) refl
 
@@ -102,7 +102,7 @@ module _ (c : Card) (l : Left c) where
     -- RELEASE
     module _ (i : ℕ) where
       freed-by-bank : (b : Bool) → there ≡ b → bankRelease os (if b then n else 0) 0 i ≡ releaseBy (refusal m (timer (release n i))) os i
-      unfolding bankRelease refusal lines timerLines lowest view
+      unfolding bankRelease refusal lines timerLines firstHolding view
       freed-by-bank true h = rw (owns h, gone, h) refl
       freed-by-bank false h = unfold isOwner releaseBy in rw (gone, h) refl
 

@@ -1,4 +1,5 @@
-// The calls that lock and unlock an applet. Each has one way out: a call that turns nothing stores nothing.
+// The calls that lock and unlock an applet. Each has one way out: a call that switches nothing stores nothing. Each has a body of its own, as set and clear
+// event, enable and disable entry have: a method with two call sites would be called with a copy of the card.
 use crate::Card;
 use crate::Reply;
 use crate::due_after;

@@ -9,7 +9,8 @@ use rules::Outer;
 use rules::Span;
 ghost use mathlib.Core.Path.{_≡_};
 ghost use Rattle.rules.specs.Bytes.{found};
-ghost use Rattle.rules.specs.Envelopes.{isSized, oneByte, helpIn, envelopeBy, envelopeOf, badEnvelope, contentAt, contentOf, typeIn, commandBy, commandOf};
+ghost use Rattle.rules.specs.Envelopes.{isSized, oneByte, helpIn, envelopeBy, badEnvelope, typeIn, commandBy};
+ghost use Rattle.rules.specs.Readers.{LocatesContent, GivesContent, ReadsEnvelope, ReadsCommand};
 
 // Whether device identities are there, with their two bytes.
 fn has_devices(s: &[u8]) -> bool
@@ -135,7 +136,7 @@ fn decide(tag: u8, s: &[u8]) -> Envelope
 
 // What the bytes of an envelope say.
 pub fn read_envelope(s: &[u8]) -> Envelope
-    ensures { λ r. ⌜ r ≡ envelopeOf (now (s .entry)) ⌝ }
+    ensures { λ r. ⌜ ReadsEnvelope (now (s .entry)) r ⌝ }
 {
     let o = tlv::outer(s);
     match o {
@@ -160,7 +161,7 @@ pub fn is_bad(e: Envelope) -> bool
 
 // Where the handler's content stands: behind the length, to the end; nowhere in bytes that are refused.
 pub fn content_at(s: &[u8]) -> Found
-    ensures { λ r. ⌜ r ≡ contentAt (now (s .entry)) ⌝ }
+    ensures { λ r. ⌜ LocatesContent (now (s .entry)) r ⌝ }
 {
     let o = tlv::outer(s);
     match o {
@@ -178,7 +179,7 @@ pub fn content_at(s: &[u8]) -> Found
 
 // The handler's content, a part of the envelope; the empty part where there is none.
 pub fn content(s: &[u8]) -> &[u8]
-    ensures { λ r. ⌜ now r ≡ contentOf (now (s .entry)) ⌝ }
+    ensures { λ r. ⌜ GivesContent (now (s .entry)) (now r) ⌝ }
 {
     let place = content_at(s);
     match place {
@@ -232,7 +233,7 @@ fn instruct(s: &[u8]) -> Command
 
 // What the bytes of a command given to send say.
 pub fn read_command(s: &[u8]) -> Command
-    ensures { λ r. ⌜ r ≡ commandOf (now (s .entry)) ⌝ }
+    ensures { λ r. ⌜ ReadsCommand (now (s .entry)) r ⌝ }
 {
     let o = tlv::outer(s);
     match o {

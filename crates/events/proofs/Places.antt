@@ -16,16 +16,16 @@ use Rattle.lists.specs.Tests.{if_then_else_}
 use Rattle.rules.specs.declared.Kind.{Kind}
 use Rattle.rules.specs.declared.Kind.the-variants.{Event, Issuer, Reserved, Unsupported}
 use Rattle.rules.specs.Events.{supported, hasValue, kindOf, named, minus, notSupported, notToSet}
-use Rattle.rules.specs.Refusals.{line, lowest}
+use Rattle.rules.specs.Refusals.{line, firstHolding}
 use Rattle.events.specs.Place.{placeOf}
 
 -- the refusal of a kind, as `refusal_of` gives it
 abbrev pub refusalOf : Kind → ℕ
-refusalOf k = lowest (line 7 (notSupported k) ∷ line 8 (notToSet k) ∷ [])
+refusalOf k = firstHolding (line 7 (notSupported k) ∷ line 8 (notToSet k) ∷ [])
 
 -- any other event may be set
 pub settable : (e : ℕ) → (e ≡ 1 → ⊥) → (e ≡ 2 → ⊥) → (e ≡ 4 → ⊥) → 0 ≡ refusalOf (Event e)
-unfolding notSupported notToSet lowest
+unfolding notSupported notToSet firstHolding
 settable e a b c = sym (simp (ne-eqb e 1 a, ne-eqb e 2 b, ne-eqb e 4 c))
 
 -- of a kind that is an event, something holds of its place

@@ -3,7 +3,7 @@
 ghost use mathlib.Core.Path.{_≡_};
 ghost use mathlib.Core.List.{[], _∷_};
 ghost use Rattle.rules.specs.Events.{kindOf, kindOfCode, notSupported, notToSet, isControl};
-ghost use Rattle.rules.specs.Refusals.{line, lowest};
+ghost use Rattle.rules.specs.Refusals.{line, firstHolding};
 ghost use Rattle.events.specs.Place.{placeOf};
 use rules::Kind;
 use rules::refused;
@@ -63,7 +63,7 @@ pub fn kind_of_code(code: u8) -> Kind
 
 // The refusal that set, clear and ask event give for a kind: 7, 8, or 0 where there is none.
 pub fn refusal_of(kind: Kind) -> u8
-    ensures { λ r. ⌜ r ≡ lowest (line 7 (notSupported kind) ∷ line 8 (notToSet kind) ∷ []) ⌝ }
+    ensures { λ r. ⌜ r ≡ firstHolding (line 7 (notSupported kind) ∷ line 8 (notToSet kind) ∷ []) ⌝ }
 {
     match kind {
         Kind::Event(place) => match place {

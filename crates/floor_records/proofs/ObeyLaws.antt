@@ -15,7 +15,7 @@ use Rattle.rules.specs.Holds.{Model}
 use Rattle.rules.specs.Calls.{Outcome, systemCommand}
 use Rattle.rules.specs.Calls.{Answer as Answered}
 use Rattle.rules.specs.Desk.{dueCommand}
-use Rattle.rules.specs.Refusals.{line, lines, lowest, refusal}
+use Rattle.rules.specs.Refusals.{line, lines, firstHolding, refusal}
 use Rattle.rules.specs.Step as Step
 use Rattle.rules.specs.Step.{step, outcome, changed, tablesAfter, deskAfter, written, front}
 use Rattle.rules.specs.Floor as floor
@@ -63,7 +63,7 @@ if-none false s e = refl
 module _ (m : Model) (b c : List ℕ) where
   refusal-same : length b ≡ length c → refusal m (systemCommand b) ≡ refusal m (systemCommand c)
   unfolding refusal lines
-  refusal-same e = ap (λ n. lowest (line 16 (m .desk .outstanding) ∷ line 18 (n <? 256) ∷ [])) e
+  refusal-same e = ap (λ n. firstHolding (line 16 (m .desk .outstanding) ∷ line 18 (n <? 256) ∷ [])) e
 
   record Same (o p : Outcome) : Type 0 where
     after : o .after ≡ p .after

@@ -6,7 +6,7 @@ use mathlib.Core.List.{List, [], _++_}
 use Rattle.lists.specs.Lists.{gather}
 use Rattle.rules.specs.Holds.{document, fresh}
 use Rattle.rules.specs.Beside.{freshCard, freshBy}
-use Rattle.rules.specs.Refusals.{lowest}
+use Rattle.rules.specs.Refusals.{firstHolding}
 use Rattle.rules.specs.Runs.{cardAfter}
 use Rattle.rules.specs.Floor.{floorLines}
 use Rattle.card.specs.declared.Card.{Card}
@@ -30,7 +30,7 @@ turns-lines {c} {k} left h (turn {p = p} {r = r} {l = l} {w = w} o t) =
     ap (λ s. s ++ w) (wrote-front (o .wrote)) ∙ ap (λ s. linesOf k (view c) p ++ s) (rw (seen, o .next) at rest) ∙ sym (piece-join k (view c) p l h)
 
 fresh-seen : view (freshReply (freshCard document []) .card) ≡ fresh document []
-unfolding freshReply freshCard freshBy lowest cardAfter
+unfolding freshReply freshCard freshBy firstHolding cardAfter
 fresh-seen = reached-seen {m = fresh document []} (record { title = []; calls = []; is = refl })
 
 -- from a fresh card with an empty title and number 1 on

@@ -12,7 +12,7 @@ use Rattle.rules.specs.Envelopes.{envelopeOf, badEnvelope}
 use Rattle.rules.specs.Applets.{inOrder}
 use Rattle.rules.specs.Arrivals.{nothing, wants, called}
 use Rattle.rules.specs.Calls.{Call, admin, event, entry, timer, arrival, settled, proactive, systemCommand, setEvent, clearEvent, askEvent, newEntry, changeEntry, enableEntry, disableEntry, allocate, release, envelope, profile}
-use Rattle.rules.specs.Refusals.{lowest, arrivalLines, lines, refusal}
+use Rattle.rules.specs.Refusals.{firstHolding, arrivalLines, lines, refusal}
 use Rattle.rules.specs.Step.{eventAnswer, entryAnswer, timerAnswer, arrivalAnswer, answer, outcome, step}
 use Rattle.history.specs.Called.{arrivalIn}
 use Rattle.history.proofs.Agrees.{plain}
@@ -85,7 +85,7 @@ calls-those m (systemCommand buffer) = nobody-called (m .tables)
 -- an envelope that can be read is accepted
 pub reads : (m : Model) (bytes : List ℕ) → badEnvelope (envelopeOf bytes) ≡ false
     → step m (arrival (envelope bytes)) .answer .refusal ≡ 0
-unfolding refusal lines arrivalLines lowest
+unfolding refusal lines arrivalLines firstHolding
 reads m bytes e =
     let ok : refusal m (arrival (envelope bytes)) ≡ 0 = rw e refl in
     ap (λ a. a .refusal) (answers m (arrival (envelope bytes)) ok) ∙ plain m (arrival (envelope bytes))

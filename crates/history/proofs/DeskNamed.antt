@@ -13,7 +13,7 @@ use Rattle.rules.specs.Holds.{Bounds, Desk, Model, document, fresh}
 use Rattle.rules.specs.Commands.{shownMenu, shownEvents, menuOf, menuBytes, eventBytes}
 use Rattle.rules.specs.Desk.{Matter, marked, withMarks, withProfile, handedOut, dueMatters, dueCommand, withFirst, withHandedOut}
 use Rattle.rules.specs.Calls.{Call, Outcome, numbered, admin, event, entry, timer, arrival, settled, proactive, systemCommand, envelope, profile, send, response}
-use Rattle.rules.specs.Refusals.{lowest, refusal}
+use Rattle.rules.specs.Refusals.{firstHolding, refusal}
 use Rattle.rules.specs.Step.{arrivalDesk, proactiveDesk, deskAfter, tablesAfter, changed, answer, written, front, outcome, step}
 use Rattle.rules.specs.Beside.{freshBy, freshCard}
 use Rattle.rules.specs.Runs.{cardAfter}
@@ -30,7 +30,7 @@ use Rattle.history.proofs.Promises.{m, past}
 
 -- A FRESH CARD has the title that is asked for ..
 pub fresh-with-its-title : (b : Bounds) (title : List ℕ) → length title ≤ b .title → freshCard b title ≡ record { refusal = 0; card = fresh b title }
-unfolding freshCard freshBy lowest
+unfolding freshCard freshBy firstHolding
 fresh-with-its-title b title h = rw (within (b .title <? length title) refl) refl
   where
     within : (c : Bool) → (b .title <? length title) ≡ c → c ≡ false
@@ -39,7 +39,7 @@ fresh-with-its-title b title h = rw (within (b .title <? length title) refl) ref
 
 -- .. and with a title too long it is refused with 12, and is a fresh card with an empty title.
 pub fresh-refused-is-fresh : (b : Bounds) (title : List ℕ) → b .title < length title → freshCard b title ≡ record { refusal = 12; card = fresh b [] }
-unfolding freshCard freshBy lowest
+unfolding freshCard freshBy firstHolding
 fresh-refused-is-fresh b title h = rw (lt-ltb (b .title) (length title) h) refl
 
 -- No call changes the title.

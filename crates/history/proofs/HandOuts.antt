@@ -11,7 +11,7 @@ use Rattle.lists.specs.Tests.{if_then_else_}
 use Rattle.rules.specs.Holds.{Desk, Model, nothingDue}
 use Rattle.rules.specs.Desk.{withMarks, withOutstanding, menu, eventList, handedOut, dueCommand, withHandedOut}
 use Rattle.rules.specs.Calls.{Outcome, proactive, systemCommand, response}
-use Rattle.rules.specs.Refusals.{lowest, proactiveLines, lines, refusal}
+use Rattle.rules.specs.Refusals.{firstHolding, proactiveLines, lines, refusal}
 use Rattle.rules.specs.Step.{proactiveDesk, deskAfter, tablesAfter, changed, answer, front, written, outcome, step}
 use Rattle.rules.proofs.DueMarks.{marked-same, first-handed}
 use Rattle.history.specs.Handed.{seen, handed}
@@ -20,7 +20,7 @@ use Rattle.history.specs.OnScreen.{leftDue, command}
 module _ (m : Model) (buffer : List ℕ) where
   -- it is accepted if nothing is outstanding and the buffer has room
   pub taken : m .desk .outstanding ≡ false → 256 ≤ length buffer → refusal m (systemCommand buffer) ≡ 0
-  unfolding refusal lines lowest
+  unfolding refusal lines firstHolding
   taken idle room = rw (idle, le-ltb (length buffer) 256 room) refl
 
   module _ (ok : refusal m (systemCommand buffer) ≡ 0) where
@@ -53,7 +53,7 @@ module _ (m : Model) (buffer : List ℕ) where
 -- a response, accepted or not, leaves nothing outstanding, and due what was due
 pub responded : (m : Model)
     → (step m (proactive response) .after .desk .outstanding ≡ false) × (step m (proactive response) .after .desk .due ≡ m .desk .due)
-unfolding step refusal lines proactiveLines lowest
+unfolding step refusal lines proactiveLines firstHolding
 responded m = go (m .desk .outstanding) refl
   where
     go : (b : Bool) → m .desk .outstanding ≡ b

@@ -17,7 +17,7 @@ use Rattle.rules.specs.Applets.{isNumber, hasNumber, present, nobody, applet, r
 use Rattle.rules.specs.Rows.{nextPair, nextIdentifier, allMade, notItsRow, badText, withEntry}
 use Rattle.rules.specs.Timers.{atLimit, noneFree}
 use Rattle.rules.specs.Calls.{saying, numbered, Call, admin, event, entry, timer, arrival, settled, proactive, systemCommand, EventCall, setEvent, clearEvent, askEvent, EntryCall, newEntry, changeEntry, enableEntry, disableEntry, TimerCall, allocate, release}
-use Rattle.rules.specs.Refusals.{line, lowest, absent, eventLines, entryLines, timerLines, lines, refusal}
+use Rattle.rules.specs.Refusals.{line, firstHolding, absent, eventLines, entryLines, timerLines, lines, refusal}
 use Rattle.rules.specs.Step.{eventTables, entryTables, timerTables, tablesAfter, changed, eventAnswer, entryAnswer, timerAnswer, answer, outcome, step}
 
 -- the registration calls: those about events, menu entries and timers
@@ -168,7 +168,7 @@ module _ (k : ℕ) (b : Bool) where
     -- THE ANSWER, its refusal included, is the same with applet k locked or unlocked ..
     pub lock-unseen-in-the-answer : step (relocked m) c .answer ≡ step m c .answer
     unfolding step outcome refusal
-    lock-unseen-in-the-answer = ap (λ l. outcome (lowest l) (relocked m) c .answer) (unseen m c e .lined) ∙ go (lowest (lines m c))
+    lock-unseen-in-the-answer = ap (λ l. outcome (firstHolding l) (relocked m) c .answer) (unseen m c e .lined) ∙ go (firstHolding (lines m c))
       where
         go : (i : ℕ) → outcome i (relocked m) c .answer ≡ outcome i m c .answer
         go zero = unseen m c e .answered
@@ -177,7 +177,7 @@ module _ (k : ℕ) (b : Bool) where
     -- .. and so is what the call does to the tables.
     pub lock-unseen-in-the-tables : step (relocked m) c .after .tables ≡ withLock (step m c .after .tables)
     unfolding step outcome refusal changed
-    lock-unseen-in-the-tables = ap (λ l. outcome (lowest l) (relocked m) c .after .tables) (unseen m c e .lined) ∙ go (lowest (lines m c))
+    lock-unseen-in-the-tables = ap (λ l. outcome (firstHolding l) (relocked m) c .after .tables) (unseen m c e .lined) ∙ go (firstHolding (lines m c))
       where
         go : (i : ℕ) → outcome i (relocked m) c .after .tables ≡ withLock (outcome i m c .after .tables)
         go zero = unseen m c e .tabled

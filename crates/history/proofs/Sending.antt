@@ -11,7 +11,7 @@ use Rattle.rules.specs.Holds.{Desk, Model}
 use Rattle.rules.specs.Envelopes.{commandOf, badCommand, systemType}
 use Rattle.rules.specs.Desk.{withOutstanding}
 use Rattle.rules.specs.Calls.{Outcome, accepted, proactive, send, response}
-use Rattle.rules.specs.Refusals.{lowest, absent, foreignTimer, proactiveLines, lines, refusal}
+use Rattle.rules.specs.Refusals.{firstHolding, absent, foreignTimer, proactiveLines, lines, refusal}
 use Rattle.rules.specs.Step.{proactiveDesk, deskAfter, tablesAfter, changed, answer, written, outcome, step}
 use Rattle.rules.proofs.DueMarks.{marked-same}
 use Rattle.history.proofs.Answered.{passes, gives}
@@ -19,7 +19,7 @@ use Rattle.history.proofs.Answered.{passes, gives}
 -- A COMMAND OF ANOTHER TYPE THAN TIMER MANAGEMENT, by an applet that is there, with none outstanding: it gets 17 just for the four types.
 pub send-gets-17 : (m : Model) (n : ℕ) (bytes : List ℕ) (type : ℕ) → commandOf bytes ≡ Plain type → absent (m .tables) n ≡ false → m .desk .outstanding ≡ false
     → step m (proactive (send n bytes)) .answer .refusal ≡ (if in? type (0x25 ∷ 0x05 ∷ 0x03 ∷ 0x04 ∷ []) then 17 else 0)
-unfolding refusal lines proactiveLines lowest badCommand foreignTimer systemType
+unfolding refusal lines proactiveLines firstHolding badCommand foreignTimer systemType
 send-gets-17 m n bytes type is here none =
     gives m (proactive (send n bytes)) ∙ rw (is, here, none) refl
 

@@ -9,8 +9,7 @@ ghost use mathlib.Core.Path.{_≡_};
 ghost use Prim.Native.Nat.{_≤_, _<_};
 ghost use lib.ListN.{length};
 ghost use Rattle.lists.specs.Tests.{if_then_else_};
-ghost use Rattle.rules.specs.Holds.{document};
-ghost use Rattle.rules.specs.Beside.{menuReader};
+ghost use Rattle.rules.specs.Readers.{ReadsMenu};
 ghost use Rattle.rules.specs.Held.{storedItem, storedMenu};
 ghost use Rattle.menu_reader.specs.Reads.{noItem, refused, ValueAt, TitleAt, ItemsAt, TextAt, ItemsRead};
 
@@ -184,7 +183,7 @@ fn refusal() -> Menu
 
 // The title, the help mark and the items of a menu command; refusal 1 and none of them for any other bytes.
 pub fn read_menu(bytes: &[u8]) -> Menu
-    ensures { λ r. ⌜ r ≡ storedMenu (menuReader document (now (bytes .entry))) ⌝ }
+    ensures { λ r. ⌜ ReadsMenu (now (bytes .entry)) r ⌝ }
 {
     let start = title_at(bytes);
     if start == 0 {

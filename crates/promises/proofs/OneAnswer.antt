@@ -1,18 +1,9 @@
 -- NO SECOND ANSWER meets the contract of a public call: for each call, by one law. Assumes nothing.
 use Prim.Native.Nat.{ℕ}
 use mathlib.Core.Path.{_≡_, sym, _∙_}
-use mathlib.Core.Bool.{Bool}
 use mathlib.Core.List.{List}
-use Rattle.rules.specs.declared.Found.{Found}
-use Rattle.rules.specs.declared.Envelope.{Envelope}
-use Rattle.rules.specs.declared.Command.{Command}
-use Rattle.rules.specs.declared.Menu.{Menu}
-use Rattle.rules.specs.Holds.{document}
-use Rattle.rules.specs.Held.{storedMenu}
-use Rattle.rules.specs.Bytes.{found, isFound, partOf}
-use Rattle.rules.specs.Envelopes.{envelopeOf, commandOf, contentOf}
 use Rattle.rules.specs.Calls.{Call}
-use Rattle.rules.specs.Beside.{menuReader}
+use Rattle.rules.specs.Readers.{Locates, GivesValue, TellsOf, LocatesContent, GivesContent, ReadsEnvelope, ReadsCommand, ReadsMenu}
 use Rattle.card.specs.declared.Card.{Card}
 use Rattle.card.specs.Replies.{Replies, Fills, MakesFresh}
 
@@ -34,26 +25,29 @@ buffer-settled c x = one-answer _
 pub fresh-settled : (title : List ℕ) → Settled (MakesFresh title)
 fresh-settled title = one-answer _
 
--- THE READERS: an element looked for, where it stands, its bytes, and whether there is one; the handler's content; what an envelope and
--- a command say; the menu reader.
+-- THE READERS, by their contracts: an element looked for, where it stands, its bytes, and whether there is one; the handler's content, where it stands and its bytes; what
+-- an envelope and a command say; the menu reader.
 module _ (bytes : List ℕ) where
-  pub locate-settled : (tag occurrence : ℕ) → Settled (λ (r : Found). r ≡ found bytes tag occurrence)
+  pub locate-settled : (tag occurrence : ℕ) → Settled (Locates bytes tag occurrence)
   locate-settled tag occurrence = one-answer _
 
-  pub find-settled : (tag occurrence : ℕ) → Settled (λ (r : List ℕ). r ≡ partOf bytes (found bytes tag occurrence))
+  pub find-settled : (tag occurrence : ℕ) → Settled (GivesValue bytes tag occurrence)
   find-settled tag occurrence = one-answer _
 
-  pub has-settled : (tag occurrence : ℕ) → Settled (λ (r : Bool). r ≡ isFound (found bytes tag occurrence))
+  pub has-settled : (tag occurrence : ℕ) → Settled (TellsOf bytes tag occurrence)
   has-settled tag occurrence = one-answer _
 
-  pub content-settled : Settled (λ (r : List ℕ). r ≡ contentOf bytes)
+  pub content-at-settled : Settled (LocatesContent bytes)
+  content-at-settled = one-answer _
+
+  pub content-settled : Settled (GivesContent bytes)
   content-settled = one-answer _
 
-  pub read-envelope-settled : Settled (λ (r : Envelope). r ≡ envelopeOf bytes)
+  pub read-envelope-settled : Settled (ReadsEnvelope bytes)
   read-envelope-settled = one-answer _
 
-  pub read-command-settled : Settled (λ (r : Command). r ≡ commandOf bytes)
+  pub read-command-settled : Settled (ReadsCommand bytes)
   read-command-settled = one-answer _
 
-  pub read-menu-settled : Settled (λ (r : Menu). r ≡ storedMenu (menuReader document bytes))
+  pub read-menu-settled : Settled (ReadsMenu bytes)
   read-menu-settled = one-answer _

@@ -15,13 +15,13 @@ use Rattle.rules.specs.Holds.{Tables}
 use Rattle.rules.specs.Events.{notSupported, notToSet}
 use Rattle.rules.specs.Envelopes.{badCommand, systemType}
 use Rattle.rules.specs.Timers.{ownerOf, notItsTimer}
-use Rattle.rules.specs.Refusals.{Line, line, lowest, foreignTimer}
+use Rattle.rules.specs.Refusals.{Line, line, firstHolding, foreignTimer}
 use Rattle.refusals.specs.Lines.{unfitText, sendRefusal}
 
 -- ENTRIES
 -- before the text: the applet is not there, or the line k holds
 abbrev early : (k : ℕ) (there holds : Bool) → ℕ
-early k there holds = lowest (line 2 (not there) ∷ line k holds ∷ [])
+early k there holds = firstHolding (line 2 (not there) ∷ line k holds ∷ [])
 
 abbrev textRefusal : (before : ℕ) (bad : Bool) → ℕ
 textRefusal before bad = if before == 0 then (if bad then 12 else 0) else before
@@ -39,8 +39,8 @@ module _ (limit : ℕ) (text : List ℕ) where
       go false e = let h = ltb-false limit (length text) e in le-leb (length text) limit h
 
 -- the text is the last line
-three-lines : (k : ℕ) → (k == 0) ≡ false → (there holds bad : Bool) → textRefusal (early k there holds) bad ≡ lowest (line 2 (not there) ∷ line k holds ∷ line 12 bad ∷ [])
-unfolding lowest
+three-lines : (k : ℕ) → (k == 0) ≡ false → (there holds bad : Bool) → textRefusal (early k there holds) bad ≡ firstHolding (line 2 (not there) ∷ line k holds ∷ line 12 bad ∷ [])
+unfolding firstHolding
 three-lines k z false holds bad = refl
 three-lines k z true true bad = rw z refl
 three-lines k z true false bad = refl
@@ -49,23 +49,23 @@ pub text-last
     : (k : ℕ) → (k == 0) ≡ false → (there holds bad : Bool) {before r : ℕ}
     → before ≡ early k there holds
     → r ≡ textRefusal before bad
-    → r ≡ lowest (line 2 (not there) ∷ line k holds ∷ line 12 bad ∷ [])
+    → r ≡ firstHolding (line 2 (not there) ∷ line k holds ∷ line 12 bad ∷ [])
 text-last k z there holds bad e f = f ∙ ap (λ (n : ℕ). textRefusal n bad) e ∙ three-lines k z there holds bad
 
 -- EVENTS
 -- one line more decides where those before give none
 abbrev three : (x y z : Bool) → List Line → ℕ
-three x y z l = lowest (line 2 x ∷ line 7 y ∷ line 8 z ∷ l)
+three x y z l = firstHolding (line 2 x ∷ line 7 y ∷ line 8 z ∷ l)
 
 three-first : (x y z : Bool) (l : List Line) → (three x y z [] ≡ 0 → ⊥) → three x y z [] ≡ three x y z l
-unfolding lowest
+unfolding firstHolding
 three-first true y z l h = refl
 three-first false true z l h = refl
 three-first false false true l h = refl
 three-first false false false l h = absurd (h refl)
 
-three-last : (x y z : Bool) (l : List Line) → three x y z [] ≡ 0 → lowest l ≡ three x y z l
-unfolding lowest
+three-last : (x y z : Bool) (l : List Line) → three x y z [] ≡ 0 → firstHolding l ≡ three x y z l
+unfolding firstHolding
 three-last true y z l h = absurd (omega arith)
 three-last false true z l h = absurd (omega arith)
 three-last false false true l h = absurd (omega arith)
@@ -76,7 +76,7 @@ module _ (there : Bool) (k : Kind) (b : Bool) {f : ℕ} (e : f ≡ three (not th
   refused-before z = e ∙ three-first (not there) (notSupported k) (notToSet k) (line 9 b ∷ []) (λ h. z (e ∙ h))
 
   pub refused-last : {r : ℕ} → f ≡ 0 → r ≡ (if b then 9 else 0) → r ≡ three (not there) (notSupported k) (notToSet k) (line 9 b ∷ [])
-  unfolding lowest
+  unfolding firstHolding
   refused-last z q = q ∙ three-last (not there) (notSupported k) (notToSet k) (line 9 b ∷ []) (sym e ∙ z)
 
 -- SEND, by what the bytes say
@@ -85,9 +85,9 @@ module _ (t : Tables) (n : ℕ) (there outstanding : Bool) (k : Command) where
       : (r type : ℕ) (system : Bool)
       → k ≡ Plain type
       → system ≡ systemType (Plain type)
-      → r ≡ lowest (line 2 (not there) ∷ line 15 false ∷ line 16 outstanding ∷ line 17 system ∷ [])
+      → r ≡ firstHolding (line 2 (not there) ∷ line 15 false ∷ line 16 outstanding ∷ line 17 system ∷ [])
       → r ≡ sendRefusal t n there outstanding k
-  unfolding sendRefusal lowest badCommand foreignTimer
+  unfolding sendRefusal firstHolding badCommand foreignTimer
   send-plain r type system p q e = rw (p, ← q) e
 
   pub send-timer
@@ -95,11 +95,11 @@ module _ (t : Tables) (n : ℕ) (there outstanding : Bool) (k : Command) where
       → k ≡ Timer timer
       → t .timers ≡ owners
       → owner ≡ ownerOf owners timer
-      → r ≡ lowest (line 2 (not there) ∷ line 15 (not (owner == n)) ∷ line 16 outstanding ∷ line 17 false ∷ [])
+      → r ≡ firstHolding (line 2 (not there) ∷ line 15 (not (owner == n)) ∷ line 16 outstanding ∷ line 17 false ∷ [])
       → r ≡ sendRefusal t n there outstanding k
-  unfolding sendRefusal lowest badCommand foreignTimer systemType notItsTimer
+  unfolding sendRefusal firstHolding badCommand foreignTimer systemType notItsTimer
   send-timer r timer owner owners p h q e = rw (p, h, ← q) e
 
   pub send-malformed : k ≡ Malformed → 1 ≡ sendRefusal t n there outstanding k
-  unfolding sendRefusal lowest badCommand
+  unfolding sendRefusal firstHolding badCommand
   send-malformed p = rw p refl

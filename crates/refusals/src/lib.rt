@@ -14,12 +14,12 @@ ghost use Rattle.rules.specs.declared.Command.the-variants.{Plain};
 ghost use Rattle.rules.specs.Holds.{Tables};
 ghost use Rattle.rules.specs.Events.{isControl, notSupported, notToSet};
 ghost use Rattle.rules.specs.Envelopes.{systemType};
-ghost use Rattle.rules.specs.Refusals.{line, lowest};
+ghost use Rattle.rules.specs.Refusals.{line, firstHolding};
 ghost use Rattle.refusals.specs.Lines.{unfitText, sendRefusal};
 
 // Of a fresh card: the title is over 20 bytes.
 pub fn title_refusal(title: &[u8]) -> u8
-    ensures { λ r. ⌜ r ≡ lowest (line 12 (20 <? length (now (title .entry))) ∷ []) ⌝ }
+    ensures { λ r. ⌜ r ≡ firstHolding (line 12 (20 <? length (now (title .entry))) ∷ []) ⌝ }
 {
     if Desk::TITLE < title.len() {
         return refused::BAD_TEXT;
@@ -29,7 +29,7 @@ pub fn title_refusal(title: &[u8]) -> u8
 
 // Of clear and ask event: there is no such applet, or it is no event to set.
 pub fn refusal_for(there: bool, kind: Kind) -> u8
-    ensures { λ r. ⌜ r ≡ lowest (line 2 (not there) ∷ line 7 (notSupported kind) ∷ line 8 (notToSet kind) ∷ []) ⌝ }
+    ensures { λ r. ⌜ r ≡ firstHolding (line 2 (not there) ∷ line 7 (notSupported kind) ∷ line 8 (notToSet kind) ∷ []) ⌝ }
 {
     if there {
         return events::refusal_of(kind);
@@ -52,7 +52,7 @@ fn refusal_of_control(control: u8, number: u8) -> u8
 
 // Of set event: the same, or call control is owned by another applet.
 pub fn refusal_to_set(there: bool, kind: Kind, control: u8, number: u8) -> u8
-    ensures { λ r. ⌜ r ≡ lowest (line 2 (not there) ∷ line 7 (notSupported kind) ∷ line 8 (notToSet kind) ∷ line 9 (isControl kind && (not (control == 0) && not (control == number))) ∷ []) ⌝ }
+    ensures { λ r. ⌜ r ≡ firstHolding (line 2 (not there) ∷ line 7 (notSupported kind) ∷ line 8 (notToSet kind) ∷ line 9 (isControl kind && (not (control == 0) && not (control == number))) ∷ []) ⌝ }
 {
     let first = refusal_for(there, kind);
     if first != 0 {
@@ -67,7 +67,7 @@ pub fn refusal_to_set(there: bool, kind: Kind, control: u8, number: u8) -> u8
 
 // Of enable and disable entry: there is no such applet, or the row is not its own.
 pub fn row_refusal(there: bool, its: bool) -> u8
-    ensures { λ r. ⌜ r ≡ lowest (line 2 (not there) ∷ line 11 (not its) ∷ []) ⌝ }
+    ensures { λ r. ⌜ r ≡ firstHolding (line 2 (not there) ∷ line 11 (not its) ∷ []) ⌝ }
 {
     if !there {
         return refused::NO_APPLET;
@@ -99,7 +99,7 @@ fn text_refusal(before: u8, fits: bool) -> u8
 
 // Of change entry: the same as of enable, or the text does not fit.
 pub fn change_refusal(there: bool, its: bool, fits: bool) -> u8
-    ensures { λ r. ⌜ r ≡ lowest (line 2 (not there) ∷ line 11 (not its) ∷ line 12 (not fits) ∷ []) ⌝ }
+    ensures { λ r. ⌜ r ≡ firstHolding (line 2 (not there) ∷ line 11 (not its) ∷ line 12 (not fits) ∷ []) ⌝ }
 {
     let before = row_refusal(there, its);
     text_refusal(before, fits)
@@ -107,7 +107,7 @@ pub fn change_refusal(there: bool, its: bool, fits: bool) -> u8
 
 // Of a new entry, but for its text: there is no such applet, or all its entries are made.
 fn made_refusal(there: bool, entries: u8, made: u8) -> u8
-    ensures { λ r. ⌜ r ≡ lowest (line 2 (not there) ∷ line 10 (entries ≤? made) ∷ []) ⌝ }
+    ensures { λ r. ⌜ r ≡ firstHolding (line 2 (not there) ∷ line 10 (entries ≤? made) ∷ []) ⌝ }
 {
     if !there {
         return refused::NO_APPLET;
@@ -120,7 +120,7 @@ fn made_refusal(there: bool, entries: u8, made: u8) -> u8
 
 // Of a new entry.
 pub fn new_refusal(there: bool, entries: u8, made: u8, fits: bool) -> u8
-    ensures { λ r. ⌜ r ≡ lowest (line 2 (not there) ∷ line 10 (entries ≤? made) ∷ line 12 (not fits) ∷ []) ⌝ }
+    ensures { λ r. ⌜ r ≡ firstHolding (line 2 (not there) ∷ line 10 (entries ≤? made) ∷ line 12 (not fits) ∷ []) ⌝ }
 {
     let before = made_refusal(there, entries, made);
     text_refusal(before, fits)
@@ -144,7 +144,7 @@ fn is_system(kind: u8) -> bool
 
 // Of a command that is well formed, by the lines that hold.
 fn lowest_line(there: bool, foreign: bool, outstanding: bool, system: bool) -> u8
-    ensures { λ r. ⌜ r ≡ lowest (line 2 (not there) ∷ line 15 foreign ∷ line 16 outstanding ∷ line 17 system ∷ []) ⌝ }
+    ensures { λ r. ⌜ r ≡ firstHolding (line 2 (not there) ∷ line 15 foreign ∷ line 16 outstanding ∷ line 17 system ∷ []) ⌝ }
 {
     if !there {
         return refused::NO_APPLET;
@@ -174,7 +174,7 @@ pub fn send_refusal(command: Command, applet: u8, there: bool, bank: Bank, outst
 
 // Of a response: no command is outstanding.
 pub fn response_refusal(outstanding: bool) -> u8
-    ensures { λ r. ⌜ r ≡ lowest (line 19 (not outstanding) ∷ []) ⌝ }
+    ensures { λ r. ⌜ r ≡ firstHolding (line 19 (not outstanding) ∷ []) ⌝ }
 {
     if outstanding {
         0
@@ -185,7 +185,7 @@ pub fn response_refusal(outstanding: bool) -> u8
 
 // Of a system command: one is outstanding, or the lent buffer has fewer than 256 bytes.
 pub fn hand_refusal(outstanding: bool, room: usize) -> u8
-    ensures { λ r. ⌜ r ≡ lowest (line 16 outstanding ∷ line 18 (room <? 256) ∷ []) ⌝ }
+    ensures { λ r. ⌜ r ≡ firstHolding (line 16 outstanding ∷ line 18 (room <? 256) ∷ []) ⌝ }
 {
     if outstanding {
         return refused::OUTSTANDING;

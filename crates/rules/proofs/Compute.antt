@@ -64,7 +64,7 @@ unfolding desk′.sameRow? desk′.menuChanges desk′.eventsChange desk′.chan
 openDesk = tt
 
 unfoldable pub openRefusals : Unit {0}
-unfolding refusals′.lowest refusals′.absent refusals′.foreignTimer refusals′.adminLines refusals′.eventLines refusals′.entryLines refusals′.timerLines refusals′.arrivalLines refusals′.proactiveLines refusals′.lines refusals′.refusal
+unfolding refusals′.firstHolding refusals′.absent refusals′.foreignTimer refusals′.adminLines refusals′.eventLines refusals′.entryLines refusals′.timerLines refusals′.arrivalLines refusals′.proactiveLines refusals′.lines refusals′.refusal
 openRefusals = tt
 
 unfoldable pub openStep : Unit {0}

@@ -14,7 +14,7 @@ use Rattle.lists.specs.Tests.{if_then_else_, _==_, _<?_, _≤?_}
 use Rattle.lists.specs.Lists.{gather, empty?, alike?, same?, every?, repeats?}
 use Rattle.rules.specs.Holds.{Bounds}
 use Rattle.rules.specs.Commands.{Item, Menu, lengthBytes, commandBytes, detailBytes, itemBytes, itemsBytes, menuValue, menuBytes, readItems, partsOf, valueOf, readMenu, properItem, mayStand, WrittenAs, isMenu}
-use Rattle.rules.specs.Refusals.{lowest}
+use Rattle.rules.specs.Refusals.{firstHolding}
 use Rattle.rules.specs.Beside.{ReadOutcome, noMenu, Reads, readBy, menuReader}
 use Rattle.lists.proofs.Alike.{same-self}
 use Rattle.lists.proofs.Decided.{clashing}
@@ -123,7 +123,7 @@ module _ (b : Bounds) (bytes : List ℕ) where
 
   -- THE READER ANSWERS SO ..
   pub reader-reads : Reads b bytes (menuReader b bytes)
-  unfolding menuReader readBy lowest
+  unfolding menuReader readBy firstHolding
   reader-reads = record { accepted = λ m w. rw (judged m w, its-menu m w) refl; refused = λ f. none f (isMenu b bytes) refl }
     where
       none : ((m : Menu) → WrittenAs b bytes m → ⊥) → (t : Bool) → isMenu b bytes ≡ t

@@ -39,10 +39,10 @@ pub record Line : Type 0 where
 abbrev pub line : ℕ → Bool → Line
 line n b = record { number = n; holds = b }
 
--- the number of the first line that holds, 0 where none does: the lowest, since the lines of every call rise (`lines-rise`, crates/runs)
-unfoldable pub lowest : List Line → ℕ
-lowest [] = 0
-lowest (x ∷ l) = if x .holds then x .number else lowest l
+-- the number of the first line that holds, 0 where none does; it is the lowest, since the lines of every call rise (`lines-rise`, crates/runs)
+unfoldable pub firstHolding : List Line → ℕ
+firstHolding [] = 0
+firstHolding (x ∷ l) = if x .holds then x .number else firstHolding l
 
 -- a number outside 1..8, or no such applet
 unfoldable pub absent : Tables → (applet : ℕ) → Bool
@@ -121,4 +121,4 @@ lines m (systemCommand buffer) = line 16 (m .desk .outstanding) ∷ line 18 (len
 
 -- The refusal of a call on a card; 0 where it is accepted.
 unfoldable pub refusal : Model → Call → ℕ
-refusal m c = lowest (lines m c)
+refusal m c = firstHolding (lines m c)

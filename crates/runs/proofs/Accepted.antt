@@ -13,15 +13,15 @@ use Rattle.lists.proofs.Every.{every-so}
 use Rattle.rules.specs.Holds.{Model}
 use Rattle.rules.specs.Calls.{Call, admin, event, entry, timer, arrival, settled, proactive, systemCommand}
 use Rattle.rules.specs.Calls.{install, delete, lock, unlock, setEvent, clearEvent, askEvent, newEntry, changeEntry, enableEntry, disableEntry, allocate, release, envelope, profile, send, response}
-use Rattle.rules.specs.Refusals.{Line, lowest, lines, adminLines, eventLines, entryLines, timerLines, arrivalLines, proactiveLines, refusal}
+use Rattle.rules.specs.Refusals.{Line, firstHolding, lines, adminLines, eventLines, entryLines, timerLines, arrivalLines, proactiveLines, refusal}
 
 -- where no number is given, no line holds
-pub lowest-none : (l : List Line) → Every (λ (x : Line). 0 < x .number) l → lowest l ≡ 0 → Every (λ (x : Line). x .holds ≡ false) l
-unfolding Every lowest
+pub lowest-none : (l : List Line) → Every (λ (x : Line). 0 < x .number) l → firstHolding l ≡ 0 → Every (λ (x : Line). x .holds ≡ false) l
+unfolding Every firstHolding
 lowest-none [] h e = tt
 lowest-none (x ∷ l) h e = go (x .holds) refl e (lowest-none l (h .1))
   where
-    go : (b : Bool) → x .holds ≡ b → (if b then x .number else lowest l) ≡ 0 → (lowest l ≡ 0 → Every (λ (x : Line). x .holds ≡ false) l) → (x .holds ≡ false) × Every (λ (x : Line). x .holds ≡ false) l
+    go : (b : Bool) → x .holds ≡ b → (if b then x .number else firstHolding l) ≡ 0 → (firstHolding l ≡ 0 → Every (λ (x : Line). x .holds ≡ false) l) → (x .holds ≡ false) × Every (λ (x : Line). x .holds ≡ false) l
     go true p r f = absurd (omega (arith, h .0))
     go false p r f = (p, f r)
 

@@ -17,7 +17,7 @@ use Rattle.rules.specs.Holds.{Bounds, Model}
 use Rattle.rules.specs.Timers.{isOwner, atLimit, noneFree, notItsTimer}
 use Rattle.rules.specs.Commands.{isMenu, readMenu, Menu}
 use Rattle.rules.specs.Calls.{Call}
-use Rattle.rules.specs.Refusals.{Line, line, lowest, lines, refusal}
+use Rattle.rules.specs.Refusals.{Line, line, firstHolding, lines, refusal}
 use Rattle.rules.specs.Beside.{freshBy, freshCard, readBy, menuReader, allocateBy, bankAllocate, releaseBy, bankRelease}
 use Rattle.runs.proofs.Accepted.{linesRise, lines-rise, lines-above}
 
@@ -36,33 +36,33 @@ pub record IsLowest (l : List Line) (given : ℕ) : Type 0 where
   pub least : Every (Under given) l
 
 -- what is given is the number of a line that holds
-lowest-holds : (l : List Line) → 1 ≤ lowest l → some? (holdsWith (lowest l)) l ≡ true
-unfolding lowest some?
+lowest-holds : (l : List Line) → 1 ≤ firstHolding l → some? (holdsWith (firstHolding l)) l ≡ true
+unfolding firstHolding some?
 lowest-holds [] h = absurd (omega arith)
 lowest-holds (x ∷ l) h = go (x .holds) h (lowest-holds l)
   where
-    go : (b : Bool) → 1 ≤ (if b then x .number else lowest l) → (1 ≤ lowest l → some? (holdsWith (lowest l)) l ≡ true)
-        → (x .number == (if b then x .number else lowest l) && b || some? (holdsWith (if b then x .number else lowest l)) l) ≡ true
+    go : (b : Bool) → 1 ≤ (if b then x .number else firstHolding l) → (1 ≤ firstHolding l → some? (holdsWith (firstHolding l)) l ≡ true)
+        → (x .number == (if b then x .number else firstHolding l) && b || some? (holdsWith (if b then x .number else firstHolding l)) l) ≡ true
     go true h r = rw (same (x .number)) refl
-    go false h r = rw (and-false (x .number == lowest l)) (r h)
+    go false h r = rw (and-false (x .number == firstHolding l)) (r h)
 
 -- no lower line holds, where the numbers rise
-lowest-least : (n : ℕ) (l : List Line) → linesRise n l ≡ true → Every (Under (lowest l)) l
-unfolding linesRise Every lowest
+lowest-least : (n : ℕ) (l : List Line) → linesRise n l ≡ true → Every (Under (firstHolding l)) l
+unfolding linesRise Every firstHolding
 lowest-least n [] e = tt
 lowest-least n (x ∷ l) e =
     let h = both (n <? x .number) (linesRise (x .number) l) e in
     let p : n < x .number = ltb-true n (x .number) (h .0) in
     go p (x .holds) (lines-above (x .number) l (h .1)) (lowest-least (x .number) l (h .1))
   where
-    go : n < x .number → (b : Bool) → Every (λ (y : Line). x .number < y .number) l → Every (Under (lowest l)) l
-        → (b ≡ true → (1 ≤ (if b then x .number else lowest l)) × ((if b then x .number else lowest l) ≤ x .number))
-        × Every (Under (if b then x .number else lowest l)) l
+    go : n < x .number → (b : Bool) → Every (λ (y : Line). x .number < y .number) l → Every (Under (firstHolding l)) l
+        → (b ≡ true → (1 ≤ (if b then x .number else firstHolding l)) × ((if b then x .number else firstHolding l) ≤ x .number))
+        × Every (Under (if b then x .number else firstHolding l)) l
     go p true a i = ((λ z. (omega arith, omega arith)), every-so (λ (y : Line). x .number < y .number) (Under (x .number)) (λ y q z. (omega arith, omega arith)) l a)
     go p false a i = ((λ z. clashing z refl), i)
 
 -- THE LOWEST IS GIVEN, of every list of lines whose numbers rise from 1 on ..
-pub lowest-is-lowest : (l : List Line) → linesRise 0 l ≡ true → IsLowest l (lowest l)
+pub lowest-is-lowest : (l : List Line) → linesRise 0 l ≡ true → IsLowest l (firstHolding l)
 lowest-is-lowest l e = record { holds = lowest-holds l; least = lowest-least 0 l e }
 
 -- .. and no second number is that.
@@ -81,8 +81,8 @@ one-lowest l (suc g) zero p q = absurd (omega (arith, no-higher l (suc g) 0 p q 
 one-lowest l (suc g) (suc k) p q = omega (arith, no-higher l (suc g) (suc k) p q (omega arith) .1, no-higher l (suc k) (suc g) q p (omega arith) .1)
 
 -- 0 is given just where no line holds.
-pub none-holds-gives-0 : (l : List Line) → Every (λ (x : Line). x .holds ≡ false) l → lowest l ≡ 0
-unfolding Every lowest
+pub none-holds-gives-0 : (l : List Line) → Every (λ (x : Line). x .holds ≡ false) l → firstHolding l ≡ 0
+unfolding Every firstHolding
 none-holds-gives-0 [] e = refl
 none-holds-gives-0 (x ∷ l) e = rw (e .0) (none-holds-gives-0 l (e .1))
 
@@ -125,7 +125,7 @@ release-lines-rise owners n timer = refl
 pub fresh-gets-the-lowest : (b : Bounds) (title : List ℕ) → IsLowest (freshLines b title) (freshCard b title .refusal)
 unfolding freshCard freshBy
 fresh-gets-the-lowest b title =
-    subst (IsLowest (freshLines b title)) (sym (number (lowest (freshLines b title)))) (lowest-is-lowest _ (fresh-lines-rise b title))
+    subst (IsLowest (freshLines b title)) (sym (number (firstHolding (freshLines b title)))) (lowest-is-lowest _ (fresh-lines-rise b title))
   where
     number : (k : ℕ) → freshBy k b title .refusal ≡ k
     number zero = refl
@@ -134,7 +134,7 @@ fresh-gets-the-lowest b title =
 pub reader-gets-the-lowest : (b : Bounds) (bytes : List ℕ) → IsLowest (readerLines b bytes) (menuReader b bytes .refusal)
 unfolding menuReader readBy
 reader-gets-the-lowest b bytes =
-    subst (IsLowest (readerLines b bytes)) (sym (number (lowest (readerLines b bytes)) (readMenu b bytes))) (lowest-is-lowest _ (reader-lines-rise b bytes))
+    subst (IsLowest (readerLines b bytes)) (sym (number (firstHolding (readerLines b bytes)) (readMenu b bytes))) (lowest-is-lowest _ (reader-lines-rise b bytes))
   where
     number : (k : ℕ) (x : Menu) → readBy k x .refusal ≡ k
     number zero x = refl
@@ -143,7 +143,7 @@ reader-gets-the-lowest b bytes =
 pub allocate-gets-the-lowest : (owners : List ℕ) (n limit : ℕ) → IsLowest (allocateLines owners n limit) (bankAllocate owners n limit .answer .refusal)
 unfolding bankAllocate allocateBy
 allocate-gets-the-lowest owners n limit =
-    subst (IsLowest (allocateLines owners n limit)) (sym (number (lowest (allocateLines owners n limit)))) (lowest-is-lowest _ (allocate-lines-rise owners n limit))
+    subst (IsLowest (allocateLines owners n limit)) (sym (number (firstHolding (allocateLines owners n limit)))) (lowest-is-lowest _ (allocate-lines-rise owners n limit))
   where
     number : (k : ℕ) → allocateBy k owners n .answer .refusal ≡ k
     number zero = refl
@@ -152,7 +152,7 @@ allocate-gets-the-lowest owners n limit =
 pub release-gets-the-lowest : (owners : List ℕ) (n limit timer : ℕ) → IsLowest (releaseLines owners n timer) (bankRelease owners n limit timer .answer .refusal)
 unfolding bankRelease releaseBy
 release-gets-the-lowest owners n limit timer =
-    subst (IsLowest (releaseLines owners n timer)) (sym (number (lowest (releaseLines owners n timer)))) (lowest-is-lowest _ (release-lines-rise owners n timer))
+    subst (IsLowest (releaseLines owners n timer)) (sym (number (firstHolding (releaseLines owners n timer)))) (lowest-is-lowest _ (release-lines-rise owners n timer))
   where
     number : (k : ℕ) → releaseBy k owners timer .answer .refusal ≡ k
     number zero = refl

@@ -17,7 +17,7 @@ use Rattle.rules.specs.Holds.{Bounds, Tables, Desk, Model, document, fresh}
 use Rattle.rules.specs.Applets.{present, applet}
 use Rattle.rules.specs.Desk.{Matter, changes, either, marked, withMarks, withProfile, dueMatters, withFirst, withHandedOut}
 use Rattle.rules.specs.Calls.{Call, admin, event, entry, timer, arrival, settled, proactive, systemCommand, envelope, profile, send, response}
-use Rattle.rules.specs.Refusals.{line, lowest, refusal}
+use Rattle.rules.specs.Refusals.{line, firstHolding, refusal}
 use Rattle.rules.specs.Step.{tablesAfter, arrivalDesk, proactiveDesk, deskAfter, changed, outcome, step}
 use Rattle.rules.specs.Beside.{freshBy, freshCard}
 use Rattle.rules.specs.Runs.{cardAfter}
@@ -54,9 +54,9 @@ fresh-with b few title h = record { tables = fresh-tables b few title; title = h
 
 pub fresh-sound : (b : Bounds) → b .rows ≤ 128 → (title : List ℕ) → Sound (freshCard b title .card)
 unfolding freshCard freshBy Every
-fresh-sound b few title = go (lowest (line 12 (b .title <? length title) ∷ [])) refl
+fresh-sound b few title = go (firstHolding (line 12 (b .title <? length title) ∷ [])) refl
   where
-    go : (n : ℕ) → lowest (line 12 (b .title <? length title) ∷ []) ≡ n → Sound (freshBy n b title .card)
+    go : (n : ℕ) → firstHolding (line 12 (b .title <? length title) ∷ []) ≡ n → Sound (freshBy n b title .card)
     go zero e = fresh-with b few title (ltb-false (b .title) (length title) (lowest-none (line 12 (b .title <? length title) ∷ []) (omega arith, tt) e .0))
     go (suc n) e = fresh-with b few [] (omega arith)
 

@@ -15,7 +15,7 @@ use Rattle.lists.specs.Lists.{count, leading}
 use Rattle.lists.proofs.Decided.{both}
 use Rattle.rules.specs.declared.Bank.{Bank}
 use Rattle.rules.specs.Timers.{isOwner, atLimit, noneFree, lowestFree, ownerOf, notItsTimer, withAllocated, withReleased}
-use Rattle.rules.specs.Refusals.{lowest}
+use Rattle.rules.specs.Refusals.{firstHolding}
 use Rattle.rules.specs.Beside.{bankAllocate, allocateBy, bankRelease, releaseBy}
 use Rattle.rules.specs.Calls.{accepted, refusedWith, numbered}
 use Rattle.rules.specs.Held.{storedAnswer}
@@ -83,34 +83,34 @@ lowest-some os = omega arith
 -- Allocation, case by case.
 module _ (b : Bank) (n limit : ℕ) where
   pub allocate-2 : isOwner n ≡ false → Allocates b n limit (storedAnswer (refusedWith 2)) b
-  unfolding bankAllocate allocateBy lowest
+  unfolding bankAllocate allocateBy firstHolding
   allocate-2 h = rw h (refl, refl)
 
   pub allocate-13 : isOwner n ≡ true → atLimit (b .owner) n limit ≡ true → Allocates b n limit (storedAnswer (refusedWith 13)) b
-  unfolding bankAllocate allocateBy lowest
+  unfolding bankAllocate allocateBy firstHolding
   allocate-13 h k = rw (h, k) (refl, refl)
 
   pub allocate-14 : isOwner n ≡ true → atLimit (b .owner) n limit ≡ false → noneFree (b .owner) ≡ true → Allocates b n limit (storedAnswer (refusedWith 14)) b
-  unfolding bankAllocate allocateBy lowest
+  unfolding bankAllocate allocateBy firstHolding
   allocate-14 h k f = rw (h, k, f) (refl, refl)
 
   pub allocate-0 : (t : ℕ) → isOwner n ≡ true → atLimit (b .owner) n limit ≡ false → noneFree (b .owner) ≡ false → t ≡ lowestFree (b .owner)
       → Allocates b n limit (storedAnswer (numbered t)) (record { owner = set (b .owner) (t - 1) n })
-  unfolding bankAllocate allocateBy lowest withAllocated
+  unfolding bankAllocate allocateBy firstHolding withAllocated
   allocate-0 t h k f e = rw (h, k, f, sym e) (refl, refl)
 
 -- Release, case by case.
 module _ (b : Bank) (n t : ℕ) where
   pub release-2 : isOwner n ≡ false → Releases b n t (storedAnswer (refusedWith 2)) b
-  unfolding bankRelease releaseBy lowest
+  unfolding bankRelease releaseBy firstHolding
   release-2 h limit = rw h (refl, refl)
 
   pub release-15 : isOwner n ≡ true → (ownerOf (b .owner) t ≡ n → ⊥) → Releases b n t (storedAnswer (refusedWith 15)) b
-  unfolding bankRelease releaseBy lowest notItsTimer
+  unfolding bankRelease releaseBy firstHolding notItsTimer
   release-15 h k limit = rw (h, ne-eqb _ _ k) (refl, refl)
 
   pub release-0 : isOwner n ≡ true → ownerOf (b .owner) t ≡ n → Releases b n t (storedAnswer accepted) (record { owner = set (b .owner) (t - 1) 0 })
-  unfolding bankRelease releaseBy lowest notItsTimer withReleased
+  unfolding bankRelease releaseBy firstHolding notItsTimer withReleased
   release-0 h k limit = rw (h, eq-eqb _ _ k) (refl, refl)
 
 -- a timer that an applet owns is one of the bank's

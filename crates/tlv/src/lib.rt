@@ -8,11 +8,12 @@ use rules::Len;
 use rules::Outer;
 use rules::Span;
 ghost use mathlib.Core.Path.{_≡_};
-ghost use Rattle.rules.specs.Bytes.{found, isFound, partOf, isRun, outerOf};
+ghost use Rattle.rules.specs.Bytes.{isRun, outerOf};
+ghost use Rattle.rules.specs.Readers.{Locates, GivesValue, TellsOf};
 
 // Looks in a run for the element with this tag number that occurs so many-th, counted from 1; what follows it is not judged.
 pub fn locate(s: &[u8], tag: u16, occurrence: usize) -> Found
-    ensures { λ r. ⌜ r ≡ found (now (s .entry)) tag occurrence ⌝ }
+    ensures { λ r. ⌜ Locates (now (s .entry)) tag occurrence r ⌝ }
 {
     if occurrence == 0 {
         return Found::Nothing;
@@ -51,7 +52,7 @@ pub fn locate(s: &[u8], tag: u16, occurrence: usize) -> Found
 
 // The value of the element that `locate` finds, as a part of the run; the empty part where there is none.
 pub fn find(s: &[u8], tag: u16, occurrence: usize) -> &[u8]
-    ensures { λ r. ⌜ now r ≡ partOf (now (s .entry)) (found (now (s .entry)) tag occurrence) ⌝ }
+    ensures { λ r. ⌜ GivesValue (now (s .entry)) tag occurrence (now r) ⌝ }
 {
     let place = locate(s, tag, occurrence);
     match place {
@@ -66,7 +67,7 @@ pub fn find(s: &[u8], tag: u16, occurrence: usize) -> &[u8]
 
 // Whether there is such an element, which tells an empty value from none.
 pub fn has(s: &[u8], tag: u16, occurrence: usize) -> bool
-    ensures { λ r. ⌜ r ≡ isFound (found (now (s .entry)) tag occurrence) ⌝ }
+    ensures { λ r. ⌜ TellsOf (now (s .entry)) tag occurrence r ⌝ }
 {
     let f = locate(s, tag, occurrence);
     match f {

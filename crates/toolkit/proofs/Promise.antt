@@ -9,6 +9,7 @@ use Rattle.rules.specs.Calls.{Outcome, Call, refusedWith}
 use Rattle.rules.specs.Refusals.{refusal}
 use Rattle.rules.specs.Step.{lent}
 use Rattle.rules.specs.Held.{storedAnswer}
+use Rattle.rules.specs.Readers.{ReadsMenu}
 use Rattle.rules.proofs.OnRefusal.{refused}
 use Rattle.card.specs.declared.Card.{Card}
 use Rattle.card.specs.declared.Reply.{Reply}
@@ -18,7 +19,7 @@ use Rattle.card.proofs.Left.{left-form}
 use Rattle.toolkit.specs.declared.Made.{Made}
 use Rattle.toolkit.specs.declared.Spot.{Spot}
 use Rattle.toolkit.specs.Does.{Does}
-use Rattle.toolkit.specs.Beside.{Makes, Finds, FindsContent, ReadsMenu}
+use Rattle.toolkit.specs.Beside.{Makes, Finds, FindsContent}
 
 -- NO SECOND ANSWER
 pub does-once : {h c d : Card} {x : Call} {v w : Answer} {a b : List ℕ} → Does h x c v a → Does h x d w b → (c ≡ d) × (v ≡ w) × (a ≡ b)

@@ -5,12 +5,10 @@ use mathlib.Core.Bool.{true, false}
 use mathlib.Core.List.{List}
 use Rattle.rules.specs.declared.Found.{Found}
 use Rattle.rules.specs.declared.Found.the-variants.{At, Nothing}
-use Rattle.rules.specs.declared.Menu.{Menu}
 use Rattle.rules.specs.Holds.{document}
-use Rattle.rules.specs.Held.{storedMenu}
 use Rattle.rules.specs.Bytes.{found}
 use Rattle.rules.specs.Envelopes.{contentAt}
-use Rattle.rules.specs.Beside.{FreshOutcome, freshCard, menuReader}
+use Rattle.rules.specs.Beside.{FreshOutcome, freshCard}
 use Rattle.card.specs.View.{stored}
 use Rattle.toolkit.specs.declared.Made.{Made}
 use Rattle.toolkit.specs.declared.Spot.{Spot}
@@ -24,7 +22,7 @@ unfoldable pub spotOf : Found → Spot
 spotOf (At span) = record { start = span .start; len = span .len; there = true }
 spotOf Nothing = record { start = 0; len = 0; there = false }
 
--- The contracts of the doors: a fresh card with a title; an element of a run; the content of an envelope; a menu command
+-- The contracts of the doors: a fresh card with a title; an element of a run; the content of an envelope
 abbrev pub Makes : (title : List ℕ) → Made → Type 0
 Makes title made = made ≡ madeOf (freshCard document title)
 
@@ -33,6 +31,3 @@ Finds run tag occurrence spot = spot ≡ spotOf (found run tag occurrence)
 
 abbrev pub FindsContent : (envelope : List ℕ) → Spot → Type 0
 FindsContent envelope spot = spot ≡ spotOf (contentAt envelope)
-
-abbrev pub ReadsMenu : (bytes : List ℕ) → Menu → Type 0
-ReadsMenu bytes menu = menu ≡ storedMenu (menuReader document bytes)

@@ -7,9 +7,10 @@ use rules::Answer;
 use rules::Bank;
 use rules::Found;
 use rules::Menu;
+ghost use Rattle.rules.specs.Readers.{ReadsMenu};
 ghost use Rattle.timers.specs.Promises.{Allocates, Releases};
 ghost use mathlib.Core.Path.{_≡_};
-ghost use Rattle.toolkit.specs.Beside.{spotOf, Makes, Finds, FindsContent, ReadsMenu};
+ghost use Rattle.toolkit.specs.Beside.{spotOf, Makes, Finds, FindsContent};
 
 // A fresh card, and the refusal's number (0: none).
 #[repr(C)]

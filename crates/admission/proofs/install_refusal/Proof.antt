@@ -9,7 +9,7 @@ use Rattle.sets.specs.Sets.{has?}
 use Rattle.rules.specs.Holds.{document}
 use Rattle.rules.specs.Applets.{isNumber, outOfRange}
 use borrow.Author.Needs.{needs}
-use Rattle.rules.specs.Refusals.{lowest}
+use Rattle.rules.specs.Refusals.{firstHolding}
 use Rattle.admission.proofs.Refusing.{linesBy, refusing, number-zero, number-over, number-within, limits-over, limits-within, clash-is}
 use Rattle.admission.proofs.install_refusal.Statement.{statement}
 use Rattle.admission.proofs.install_refusal.Tie as tie
@@ -26,18 +26,18 @@ past c e =
     (pick-no _ (f .before .has .ensures) (f .if3 .left) (pick-no _ (c .before .is-out-of-range .ensures) (c .if4 .left) e))
 
 returns : tie.Need-returns
-unfolding linesBy lowest
+unfolding linesBy firstHolding
 returns c = refusing _ _ _ (search (picks, number-zero, number-over, number-within, needs) depth 8)
 
 returns-2 : tie.Need-returns-2
-unfolding linesBy lowest
+unfolding linesBy firstHolding
 returns-2 c = refusing _ _ _ (search (picks, number-zero, number-over, number-within, needs) depth 8)
 
 has-requires : tie.Need-has-requires
 has-requires c κs = search needs
 
 returns-3 : tie.Need-returns-3
-unfolding linesBy lowest
+unfolding linesBy firstHolding
 returns-3 c = refusing _ _ _ (search (picks, number-zero, number-over, number-within, needs) depth 8)
 
 looked-at-requires : tie.Need-looked-at-requires
@@ -47,7 +47,7 @@ is-out-of-range-requires : tie.Need-is-out-of-range-requires
 is-out-of-range-requires c κs = search needs
 
 returns-4 : tie.Need-returns-4
-unfolding linesBy lowest
+unfolding linesBy firstHolding
 returns-4 c = refusing _ _ _ (search (picks, number-zero, number-over, number-within, needs) depth 8)
 
 total-requires : tie.Need-total-requires
@@ -60,7 +60,7 @@ add-if5 : tie.Need-add-if5
 add-if5 c = search needs
 
 returns-5 : tie.Need-returns-5
-unfolding linesBy lowest
+unfolding linesBy firstHolding
 returns-5 c =
     let w = c .before in
     let over = limits-over _ (w .before .total .ensures .0) (w .wide .ensures .0) (c .if5 .taken) in
@@ -70,7 +70,7 @@ clashes-requires : tie.Need-clashes-requires
 clashes-requires c κs = search needs
 
 returns-6 : tie.Need-returns-6
-unfolding linesBy lowest
+unfolding linesBy firstHolding
 returns-6 c =
     let f = c .before .before in
     let w = f .before in
@@ -80,7 +80,7 @@ returns-6 c =
     refusing _ _ _ (past p (pick-false _ few (pick-yes _ clash (c .if6 .taken) refl)))
 
 returns-7 : tie.Need-returns-7
-unfolding linesBy lowest
+unfolding linesBy firstHolding
 returns-7 c =
     let f = c .before .before in
     let w = f .before in

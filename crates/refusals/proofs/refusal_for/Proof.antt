@@ -1,7 +1,7 @@
 -- `refusal_for` meets its contract: the applet first, then the event.
 -- Assumes nothing.
 use mathlib.Core.Path.{refl}
-use Rattle.rules.specs.Refusals.{lowest}
+use Rattle.rules.specs.Refusals.{firstHolding}
 use borrow.Author.Needs.{needs}
 use Rattle.refusals.proofs.refusal_for.Statement.{statement}
 use Rattle.refusals.proofs.refusal_for.Tie as tie
@@ -10,11 +10,11 @@ refusal-of-requires : tie.Need-refusal-of-requires
 refusal-of-requires c κs = search needs
 
 returns : tie.Need-returns
-unfolding lowest
+unfolding firstHolding
 returns c = rw (c .before .if1 .taken) (c .refusal-of .ensures)
 
 returns-2 : tie.Need-returns-2
-unfolding lowest
+unfolding firstHolding
 returns-2 c = rw (c .if1 .left) refl
 
 pub refusal-for-spec : {M : Type 1} → statement M
