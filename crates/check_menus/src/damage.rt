@@ -139,7 +139,7 @@ fn told(kind: usize, tried: Tried) {
           flag missing: \n\
           identifier twice: \n\
           item with length 0: \n\
-          firstHolding bit turned: \n\
+          lowest bit turned: \n\
           highest bit turned: \n",
         kind,
     );
