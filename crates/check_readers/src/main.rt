@@ -216,7 +216,7 @@ fn say_numbered(letter: u8, s: &[u8]) {
         }
     } else if letter == b'v' {
         if 2 <= s.len() {
-            say_kind(events::kind_of(floor_calls::signed_of(s[0], s[1])));
+            say_kind(events::kind_of(floor_orders::values::signed_of(s[0], s[1])));
         }
     } else if 4 <= s.len() {
         let tag = number(s[0], s[1]);

@@ -34,8 +34,8 @@ fn obey_next(stand: Stand, input: &mut [u8], out: &mut [u8]) -> Stand
     }
     let run = obey_all(card, number, &input[..n], out);
     let left = run.card;
-    let length = run.length;
-    let more = io::write_all(STDOUT_FILENO, &out[..length]);
+    let len = run.len;
+    let more = io::write_all(STDOUT_FILENO, &out[..len]);
     Stand {
         card: left,
         number: run.number,

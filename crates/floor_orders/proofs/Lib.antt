@@ -1,3 +1,4 @@
 -- The laws of orders.
 pub mod OrderLaws
+pub mod ValueLaws
 pub mod WordLaws

@@ -1,27 +1,24 @@
--- What a record asks for, as an order of the rules.
+-- The letter of the call that a record makes, and the arguments of a record.
 use Prim.Native.Nat.{ℕ}
-use mathlib.Core.Path.{_≡_}
+use mathlib.Core.Bool.{Bool, true, false}
 use mathlib.Core.List.{List}
-use lib.ListN.{length, take, drop, replicate}
-use Rattle.lists.specs.Tests.{if_then_else_}
+use lib.ListN.{length, take, drop}
+use Rattle.lists.specs.Tests.{if_then_else_, _<?_, _≤?_}
 use Rattle.rules.specs.Bytes.{byte}
-use Rattle.rules.specs.Floor as floor
-use Rattle.floor_calls.specs.declared.Ask.{Ask}
-use Rattle.floor_calls.specs.declared.Ask.the-variants.{Unknown}
-use Rattle.floor_calls.specs.Asks.{fits, callOf}
+use Rattle.rules.specs.Floor.{Order, call, noCall, orderOf}
 
 -- the arguments of a record
 unfoldable pub argumentsOf : List ℕ → List ℕ
 argumentsOf r = take (byte r 2) (drop 3 r)
 
--- what is asked for, only where the arguments l are such as the call takes
-unfoldable pub fitting : Ask → List ℕ → Ask
-fitting ask l = if fits ask l then ask else Unknown
+-- a help mark stands first, 0 or 1
+unfoldable pub marksHelp : List ℕ → Bool
+marksHelp l = if 0 <? length l then byte l 0 ≤? 1 else false
 
--- the rules' order; a system command is handed out into 256 bytes
-unfoldable pub ordered : Ask → (applet : ℕ) (arguments : List ℕ) → floor.Order
-ordered ask a l = callOf ask a l (replicate 256 0)
+unfoldable pub makesCall : Order → Bool
+makesCall (call c) = true
+makesCall noCall = false
 
--- what a letter asks for, of an applet and with any arguments
-abbrev pub AsksFor : (letter applet : ℕ) → Ask → Type 0
-AsksFor x a ask = (l : List ℕ) → ordered (fitting ask l) a l ≡ floor.orderBy x a (length l) l
+-- the letter of a record that makes a call, 0 of one that makes none
+unfoldable pub callLetter : List ℕ → ℕ
+callLetter r = if makesCall (orderOf r) then byte r 0 else 0

@@ -1,21 +1,15 @@
-// What a record of the floor program asks for, and the arguments that the call takes.
+// The call that a record of the floor program makes, known by its letter, and the arguments that the call takes.
 // What a record makes stands in `rules`, specs/Floor.antt.
 mod blanks;
+pub mod values;
 
-use floor_calls::Arrival;
-use floor_calls::Ask;
-use floor_calls::Deed;
-use floor_calls::Gift;
-use floor_calls::fits;
 use texts::byte_at;
 use texts::first;
 use texts::from;
 ghost use mathlib.Core.Path.{_≡_};
-ghost use Rattle.lists.specs.Tests.{if_then_else_};
-ghost use Rattle.rules.specs.Bytes.{byte};
-ghost use Rattle.rules.specs.Floor.{filled, orderOf};
-ghost use Rattle.floor_calls.specs.declared.Ask.the-variants.{Unknown};
-ghost use Rattle.floor_orders.specs.Orders.{argumentsOf, ordered, AsksFor};
+ghost use lib.ListN.{length};
+ghost use Rattle.rules.specs.Floor.{filled, orderBy};
+ghost use Rattle.floor_orders.specs.Orders.{argumentsOf, marksHelp, makesCall, callLetter};
 
 // The arguments of a record, a part of it: as many bytes as it counts, or as there are.
 pub fn arguments(bytes: &[u8]) -> &[u8]
@@ -39,43 +33,42 @@ fn is_filled(bytes: &[u8]) -> bool
     blanks::blank_from(bytes, n as usize + 3)
 }
 
-// What is asked for, only where the test holds.
-fn only_if(holds: bool, ask: Ask) -> Ask
-    ensures { λ r. ⌜ r ≡ (if holds then ask else Unknown) ⌝ }
+// A help mark, 0 or 1, stands first.
+fn marks_help(arguments: &[u8]) -> bool
+    ensures { λ r. ⌜ r ≡ marksHelp (now (arguments .entry)) ⌝ }
 {
-    if holds { ask } else { Ask::Unknown }
+    if 0 < arguments.len() {
+        return arguments[0] <= 1;
+    }
+    false
 }
 
-// What a letter asks for, of an applet or of none, 0; whether the arguments fit is not looked at.
-fn asked_by(letter: u8, applet: u8) -> Ask
-    ensures { λ r. ⌜ AsksFor letter applet r ⌝ }
+// The letter is known, and takes this applet, or none, 0, and these arguments.
+fn is_call(letter: u8, applet: u8, arguments: &[u8]) -> bool
+    ensures { λ r. ⌜ r ≡ makesCall (orderBy letter applet (length (now (arguments .entry))) (now (arguments .entry))) ⌝ }
 {
+    let n = arguments.len();
     match letter {
-        b'I' => Ask::Deed(Deed::Install),
-        b'M' => Ask::Gift(Gift::NewEntry),
-        b'E' => Ask::Deed(Deed::SetEvent),
-        b'C' => Ask::Deed(Deed::ClearEvent),
-        b'P' => only_if(applet == 0, Ask::Arrival(Arrival::Profile)),
-        b'S' => only_if(applet == 0, Ask::Arrival(Arrival::Envelope)),
-        b'O' => only_if(applet == 0, Ask::Arrival(Arrival::Settled)),
-        b'W' => only_if(applet == 0, Ask::Gift(Gift::SystemCommand)),
-        b'R' => only_if(applet == 0, Ask::Deed(Deed::Response)),
-        b'T' => Ask::Gift(Gift::Allocate),
-        b'D' => Ask::Deed(Deed::Delete),
-        b'L' => Ask::Deed(Deed::Lock),
-        b'U' => Ask::Deed(Deed::Unlock),
-        _ => Ask::Unknown,
+        b'I' => n == 12,
+        b'M' => marks_help(arguments),
+        b'E' | b'C' => n == 2,
+        b'P' | b'S' => applet == 0,
+        b'O' | b'W' | b'R' => n == 0 && applet == 0,
+        b'T' => n == 0,
+        b'D' | b'L' | b'U' => n == 0,
+        _ => false,
     }
 }
 
-// What a record asks for, of the applet and with the arguments that it names; any bytes are a record, and all but 24 ask for no call.
-pub fn read(bytes: &[u8]) -> Ask
-    ensures { λ r. ⌜ ordered r (byte (now (bytes .entry)) 1) (argumentsOf (now (bytes .entry))) ≡ orderOf (now (bytes .entry)) ⌝ }
+// The letter of the call that a record makes, 0 where it makes none; any bytes are a record, and all but 24 make none.
+pub fn call_letter(bytes: &[u8]) -> u8
+    ensures { λ r. ⌜ r ≡ callLetter (now (bytes .entry)) ⌝ }
 {
     if is_filled(bytes) {
-        let ask = asked_by(byte_at(bytes, 0), byte_at(bytes, 1));
-        let fit = fits(ask, arguments(bytes));
-        return only_if(fit, ask);
+        let letter = byte_at(bytes, 0);
+        if is_call(letter, byte_at(bytes, 1), arguments(bytes)) {
+            return letter;
+        }
     }
-    Ask::Unknown
+    0
 }

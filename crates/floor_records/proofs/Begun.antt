@@ -69,7 +69,7 @@ module _ {k : ℕ} {m : Model} {s b : List ℕ} (room : 540 * recordsIn s ≤ le
 
 pub begun-all
     : {k : ℕ} {m : Model} {s b : List ℕ} {i : ℕ} {card : Card} {next at : ℕ} {c : List ℕ}
-    → length s ≤ 24 * i → Begun k m s b i card next at c → ObeysAll k m s b c (record { card = card; number = next; length = at })
+    → length s ≤ 24 * i → Begun k m s b i card next at c → ObeysAll k m s b c (record { card = card; number = next; len = at })
 begun-all {s} {i} {card} {next} h g =
     let none : drop (24 * i) s ≡ [] = drop-of-length-le s h in
     let card-is : view card ≡ cardAfterPiece _ _ s = sym (ap (cardAfterPiece next (view card)) none ∙ card-none next (view card)) ∙ g .card-after in

@@ -32,4 +32,4 @@ pub record ObeysAll (k : ℕ) (m : Model) (s b c : List ℕ) (r : AfterPiece) : 
   pub card : r .card ≡ stored (cardAfterPiece k m s)
   pub left : Left (r .card)
   pub next : r .number ≡ k + recordsIn s
-  pub wrote : Wrote b 0 (linesOf k m s) c (r .length)
+  pub wrote : Wrote b 0 (linesOf k m s) c (r .len)

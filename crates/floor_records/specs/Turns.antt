@@ -18,4 +18,4 @@ Whole (p ∷ q ∷ l) = (length p % 24 ≡ 0) × Whole (q ∷ l)
 pub data Turns : (card : Card) (number : ℕ) (pieces : List (List ℕ)) (written : List ℕ) → Type 0 where
   none : {c : Card} {k : ℕ} → Turns c k [] []
   turn : {c : Card} {k : ℕ} {p b d : List ℕ} {r : AfterPiece} {l : List (List ℕ)} {w : List ℕ}
-      → ObeysAll k (view c) p b d r → Turns (r .card) (r .number) l w → Turns c k (p ∷ l) (take (r .length) d ++ w)
+      → ObeysAll k (view c) p b d r → Turns (r .card) (r .number) l w → Turns c k (p ∷ l) (take (r .len) d ++ w)

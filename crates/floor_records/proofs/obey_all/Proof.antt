@@ -1,30 +1,48 @@
 -- `floor_records::obey_all` meets its contract: with i records obeyed, their lines stand at the front, the rest of the piece gives the rest, and the
 -- next number is spelled. Assumes nothing.
 use Prim.Native.Nat.{_-_}
+use Prim.Native.Char.{code}
 use native.Mathlib.Omega.{arith}
-use mathlib.Core.Path.{_≡_, sym, ap, _∙_}
+use mathlib.Core.Path.{_≡_, refl, sym, ap, _∙_}
+use mathlib.Core.Bool.{_&&_}
 use mathlib.Core.Logic.{⊎-elim}
+use mathlib.Core.List.{[]}
 use denote.Ref.{now}
-use lib.ListN.{length, take, length-take}
+use lib.ListN.{length, take, drop, length-take}
+use lib.IntN.{ℤ}
 use lib.Seq.{length-take-le}
+use mir.Syntax.{w16}
+use mir.ValLaws.{toZ-ofZ}
 use borrow.Author.Needs.{needs}
+use Rattle.lists.specs.Tests.{_==_, _≤?_}
+use Rattle.lists.specs.Lists.{some?, in?}
+use Rattle.lists.specs.Text.{ascii}
+use Rattle.lists.proofs.Padded.{take-padded}
+use Rattle.rules.specs.declared.Request.{Request}
+use Rattle.rules.specs.Bytes.{byte}
+use Rattle.rules.specs.Held.{storedAnswer}
+use Rattle.rules.specs.Calls.{admin, event, entry, timer, arrival, settled, proactive}
+use Rattle.rules.specs.Calls.{install, delete, lock, unlock, setEvent, clearEvent, newEntry, allocate, envelope, profile, response}
+use Rattle.rules.specs.Floor.{orderBy, requestOf, signed, shownAnswer}
+use Rattle.rules.specs.Step.{step}
 use Rattle.card.specs.View.{view}
+use Rattle.card.specs.Replies.{replied}
 use Rattle.floor_lines.specs.Texts.{Spells}
-use Rattle.floor_dispatch.proofs.PostLaws.{Made, made-deed, made-gift, made-arrival, unmade}
 use Rattle.floor_lines.proofs.LineLaws.{decimal-20}
 use Rattle.floor_lines.proofs.Counting.{spells-few, wrote-spells}
+use Rattle.floor_answers.specs.Shown.{shownBy}
 use Rattle.floor_records.specs.Pieces.{recordsIn}
-use Rattle.floor_records.proofs.ObeyLaws.{at-record}
+use Rattle.floor_records.proofs.ObeyLaws.{Heard, Made, made-call, made-command, made-none, at-record}
 use Rattle.floor_records.proofs.Begun.{Begun, line-short, begun-none, begun-more, begun-all}
 use Rattle.floor_records.proofs.obey_all.Statement.{statement}
 use Rattle.floor_records.proofs.obey_all.Tie as tie
 
 abbrev Inv-loop : tie.InvT-loop
-Inv-loop number input out₀ len command₀ digits₀ count₀ left₀ next₀ at₀ i₀ out command digits count left next at i =
-    Begun number (view left₀) input out₀ i left next at out × Spells next digits count × (length digits ≡ 20) × (length command ≡ 256)
+Inv-loop card₀ number₀ input out₀ command₀ digits₀ count₀ len₀ i₀ card number out command digits count len i =
+    Begun number₀ (view card₀) input out₀ i card number len out × Spells number digits count × (length digits ≡ 20) × (length command ≡ 256)
 
 abbrev μ-loop : tie.MeasureT-loop
-μ-loop number input out₀ len command₀ digits₀ count₀ left₀ next₀ at₀ i₀ out command digits count left next at i = recordsIn input - i
+μ-loop card₀ number₀ input out₀ command₀ digits₀ count₀ len₀ i₀ card number out command digits count len i = recordsIn input - i
 
 slice-aggregate-put-decimal : tie.Need-slice-aggregate-put-decimal Inv-loop μ-loop
 slice-aggregate-put-decimal c = search needs
@@ -50,65 +68,125 @@ first-requires c κs = search needs
 byte-at-requires : tie.Need-byte-at-requires Inv-loop μ-loop
 byte-at-requires c κs = search needs
 
-byte-at-requires-2 : tie.Need-byte-at-requires-2 Inv-loop μ-loop
-byte-at-requires-2 c κs = search needs
-
-read-requires : tie.Need-read-requires Inv-loop μ-loop
-read-requires c κs = search needs
-
 arguments-requires : tie.Need-arguments-requires Inv-loop μ-loop
 arguments-requires c κs = search needs
 
-enum-known-ask : tie.Need-enum-known-ask Inv-loop μ-loop
-enum-known-ask c = search needs
+call-letter-requires : tie.Need-call-letter-requires Inv-loop μ-loop
+call-letter-requires c κs = search needs
 
-do-deed-requires : tie.Need-do-deed-requires Inv-loop μ-loop
-do-deed-requires c κs = search needs
+request-requires : tie.Need-request-requires Inv-loop μ-loop
+request-requires c κs = search needs
 
-enum-known-ask-2 : tie.Need-enum-known-ask-2 Inv-loop μ-loop
-enum-known-ask-2 c = search needs
+install-requires : tie.Need-install-requires Inv-loop μ-loop
+install-requires c κs = search needs
 
-slice-aggregate-give : tie.Need-slice-aggregate-give Inv-loop μ-loop
-slice-aggregate-give c = search needs
+byte-at-requires-2 : tie.Need-byte-at-requires-2 Inv-loop μ-loop
+byte-at-requires-2 c κs = search needs
 
-give-requires : tie.Need-give-requires Inv-loop μ-loop
-give-requires c κs = search needs
+from-requires-2 : tie.Need-from-requires-2 Inv-loop μ-loop
+from-requires-2 c κs = search needs
 
-enum-known-ask-3 : tie.Need-enum-known-ask-3 Inv-loop μ-loop
-enum-known-ask-3 c = search needs
+new-entry-requires : tie.Need-new-entry-requires Inv-loop μ-loop
+new-entry-requires c κs = search needs
 
-name-requires : tie.Need-name-requires Inv-loop μ-loop
-name-requires c κs = search needs
+value-of-requires : tie.Need-value-of-requires Inv-loop μ-loop
+value-of-requires c κs = search needs
 
-enum-told : tie.Need-enum-told Inv-loop μ-loop
-enum-told c = search needs
+set-event-requires : tie.Need-set-event-requires Inv-loop μ-loop
+set-event-requires c κs = search needs
 
-unasked-requires : tie.Need-unasked-requires Inv-loop μ-loop
-unasked-requires c κs = search needs
+value-of-requires-2 : tie.Need-value-of-requires-2 Inv-loop μ-loop
+value-of-requires-2 c κs = search needs
 
--- what the four arms make of what is asked for
+clear-event-requires : tie.Need-clear-event-requires Inv-loop μ-loop
+clear-event-requires c κs = search needs
+
+profile-requires : tie.Need-profile-requires Inv-loop μ-loop
+profile-requires c κs = search needs
+
+envelope-requires : tie.Need-envelope-requires Inv-loop μ-loop
+envelope-requires c κs = search needs
+
+settled-requires : tie.Need-settled-requires Inv-loop μ-loop
+settled-requires c κs = search needs
+
+slice-aggregate-system-command : tie.Need-slice-aggregate-system-command Inv-loop μ-loop
+slice-aggregate-system-command c = search needs
+
+system-command-requires : tie.Need-system-command-requires Inv-loop μ-loop
+system-command-requires c κs = search needs
+
+response-requires : tie.Need-response-requires Inv-loop μ-loop
+response-requires c κs = search needs
+
+allocate-requires : tie.Need-allocate-requires Inv-loop μ-loop
+allocate-requires c κs = search needs
+
+delete-requires : tie.Need-delete-requires Inv-loop μ-loop
+delete-requires c κs = search needs
+
+lock-requires : tie.Need-lock-requires Inv-loop μ-loop
+lock-requires c κs = search needs
+
+unlock-requires : tie.Need-unlock-requires Inv-loop μ-loop
+unlock-requires c κs = search needs
+
+no-call-requires : tie.Need-no-call-requires Inv-loop μ-loop
+no-call-requires c κs = search needs
+
+-- what was read of the record, and what the arms make of it
+heard
+    : (j : tie.At-match-came Inv-loop μ-loop)
+    → let l = j .before .before .before .before .before .before .before .loop in
+    Heard (l .card) (now (j .before .before .before .before .first .result)) (j .before .call-letter .result) (j .before .before .before .byte-at .result) (now (j .before .before .arguments .result)) (l .command)
+heard j =
+    let l = j .before .before .before .before .before .before .before .loop in
+    record { left = l .inv .0 .left; letter = j .before .call-letter .ensures; applet = j .before .before .before .byte-at .ensures; arguments = j .before .before .arguments .ensures; wide = l .inv .3 }
+
 made
     : (j : tie.At-match-came Inv-loop μ-loop)
-    → let l = j .before .before .before .before .before .before .before .before .loop in
-    Made (view (l .left)) (j .before .before .read .result) (j .match .ask) (j .before .before .before .byte-at2 .result) (now (j .before .arguments .result)) (l .command) (j .match .command) (j .match .reply)
+    → Made (view (j .before .before .before .before .before .before .before .loop .card)) (now (j .before .before .before .before .first .result)) (j .before .call-letter .result) (j .match .command) (j .match .reply)
+unfolding orderBy shownBy in? some? ascii shownAnswer storedAnswer
 made j =
-    let l = j .before .before .before .before .before .before .before .before .loop in
-    let a = j .before .before .before .byte-at2 .result in
-    let b = now (j .before .arguments .result) in
+    let m = view (j .before .before .before .before .before .before .before .loop .card) in
+    let n = byte (now (j .before .before .before .before .first .result)) 2 in
+    let a = j .before .before .before .byte-at .result in
+    let l = now (j .before .before .arguments .result) in
+    let h = heard j in
     ⊎-elim
-    (λ w. made-deed (l .left) a b (l .command) (w .1 .given .1) (w .3 .ensures) (w .4) (w .5) (w .6))
+    (λ w. made-call h (code "I") (n == 12) (admin (install a (requestOf l))) (w .0 .keys1) refl refl (λ o. refl) (w .2 .ensures ∙ ap (λ (q : Request). replied (step m (admin (install a q)))) (w .1 .ensures)) (w .3) (w .4))
     (⊎-elim
-    (λ w. made-gift (l .left) a b (l .command) (w .1 .given .1) (w .4 .ensures) (w .4 .kept .1 .1 .1 .1 .0) (w .6) (w .7) (w .8))
+    (λ w. made-call h (code "M") (1 ≤? n && byte l 0 ≤? 1) (entry (newEntry a (byte l 0 == 1) (drop 1 l))) (w .0 .keys2) refl refl (λ o. refl) (w .3 .ensures ∙ rw (w .1 .ensures, w .2 .ensures) refl) (w .4) (w .5))
     (⊎-elim
-    (λ w. made-arrival (l .left) a b (l .command) (w .1 .given .1) (w .3 .ensures) (w .4) (w .5) (w .6))
-    (λ w. unmade (l .left) a b (l .command) (l .inv .0 .left) (w .1 .given .1) (w .2 .ensures) (w .3) (w .4) (w .5))))
+    (λ w. made-call h (code "E") (n == 2) (event (setEvent a (signed (byte l 0) (byte l 1)))) (w .0 .keys3) refl refl (λ o. refl) (w .2 .ensures ∙ ap (λ (v : ℤ). replied (step m (event (setEvent a v)))) (toZ-ofZ w16 _ (record { sfits = w .1 .ok }) ∙ w .1 .ensures)) (w .3) (w .4))
+    (⊎-elim
+    (λ w. made-call h (code "C") (n == 2) (event (clearEvent a (signed (byte l 0) (byte l 1)))) (w .0 .keys4) refl refl (λ o. refl) (w .2 .ensures ∙ ap (λ (v : ℤ). replied (step m (event (clearEvent a v)))) (toZ-ofZ w16 _ (record { sfits = w .1 .ok }) ∙ w .1 .ensures)) (w .3) (w .4))
+    (⊎-elim
+    (λ w. made-call h (code "P") (a == 0) (arrival (profile l)) (w .0 .keys5) refl refl (λ o. take-padded 8 0 (o .answer .called)) (w .1 .ensures) (w .2) (w .3))
+    (⊎-elim
+    (λ w. made-call h (code "S") (a == 0) (arrival (envelope l)) (w .0 .keys6) refl refl (λ o. take-padded 8 0 (o .answer .called)) (w .1 .ensures) (w .2) (w .3))
+    (⊎-elim
+    (λ w. made-call h (code "O") (n == 0 && a == 0) (settled) (w .0 .keys7) refl refl (λ o. take-padded 8 0 (o .answer .called)) (w .1 .ensures) (w .2) (w .3))
+    (⊎-elim
+    (λ w. made-command h (w .0 .keys8) (w .2 .ensures) (w .2 .kept .1 .0) (w .4) (w .5))
+    (⊎-elim
+    (λ w. made-call h (code "R") (n == 0 && a == 0) (proactive response) (w .0 .keys9) refl refl (λ o. refl) (w .1 .ensures) (w .2) (w .3))
+    (⊎-elim
+    (λ w. made-call h (code "T") (n == 0) (timer (allocate a)) (w .0 .keys10) refl refl (λ o. refl) (w .1 .ensures) (w .2) (w .3))
+    (⊎-elim
+    (λ w. made-call h (code "D") (n == 0) (admin (delete a)) (w .0 .keys11) refl refl (λ o. refl) (w .1 .ensures) (w .2) (w .3))
+    (⊎-elim
+    (λ w. made-call h (code "L") (n == 0) (admin (lock a)) (w .0 .keys12) refl refl (λ o. refl) (w .1 .ensures) (w .2) (w .3))
+    (⊎-elim
+    (λ w. made-call h (code "U") (n == 0) (admin (unlock a)) (w .0 .keys13) refl refl (λ o. refl) (w .1 .ensures) (w .2) (w .3))
+    (λ w. made-none h (w .0 .rest) (w .1 .ensures) (w .2) (w .3))))))))))))))
     (j .match .came)
 
-add-end : tie.Need-add-end Inv-loop μ-loop
-add-end c =
-    let t = c .before .before .before .before .before .before .before .before .before in
-    let l = t .before in
-    let s = l .before .before .before .before .before .before in
+add-line : tie.Need-add-line Inv-loop μ-loop
+add-line c =
+    let t = c .before .before .before .before .before .before .before in
+    let l = c .before .before .before .before .before .before .before .before in
+    let s = c .before .before .before .before .before .before .before .before .before .before .before .before .before .before in
     omega (arith, t .loop-test .taken, l .loop .inv .0 .short, l .loop .inv .0 .wrote .long, s .pre, s .good)
 
 sub-line : tie.Need-sub-line Inv-loop μ-loop
@@ -119,91 +197,91 @@ part-line-start c = search needs
 
 part-line-end : tie.Need-part-line-end Inv-loop μ-loop
 part-line-end c =
-    let t = c .before .before .before .before .before .before .before .before .before in
-    let l = t .before in
-    let s = l .before .before .before .before .before .before in
+    let t = c .before .before .before .before .before .before .before in
+    let l = c .before .before .before .before .before .before .before .before in
+    let s = c .before .before .before .before .before .before .before .before .before .before .before .before .before .before in
     omega (arith, t .loop-test .taken, l .loop .inv .0 .short, l .loop .inv .0 .wrote .long, s .pre, s .good)
+
+byte-at-requires-3 : tie.Need-byte-at-requires-3 Inv-loop μ-loop
+byte-at-requires-3 c κs = search needs
 
 array-share-prefix-digits : tie.Need-array-share-prefix-digits Inv-loop μ-loop
 array-share-prefix-digits c =
-    let t = c .before .before .before .before .before .before .before .before .before .before in
-    let l = t .before in
-    let s = l .before .before .before .before .before .before in
+    let t = c .before .before .before .before .before .before .before .before .before in
+    let l = c .before .before .before .before .before .before .before .before .before .before in
+    let s = c .before .before .before .before .before .before .before .before .before .before .before .before .before .before .before .before in
     omega (arith, spells-few (l .loop .inv .1) (omega (arith, t .loop-test .taken, l .loop .inv .0 .counted, s .pre)))
 
 slice-aggregate-write-answer : tie.Need-slice-aggregate-write-answer Inv-loop μ-loop
 slice-aggregate-write-answer c =
-    let t = c .before .before .before .before .before .before .before .before .before .before .before in
-    let l = t .before in
-    let s = l .before .before .before .before .before .before in
+    let t = c .before .before .before .before .before .before .before .before .before .before in
+    let l = c .before .before .before .before .before .before .before .before .before .before .before in
+    let s = c .before .before .before .before .before .before .before .before .before .before .before .before .before .before .before .before .before in
     sym (length-take-le _ _ (omega (arith, l .loop .inv .2, spells-few (l .loop .inv .1) (omega (arith, t .loop-test .taken, l .loop .inv .0 .counted, s .pre)))))
 
 slice-aggregate-write-answer-2 : tie.Need-slice-aggregate-write-answer-2 Inv-loop μ-loop
-slice-aggregate-write-answer-2 c = let j = c .before .before .before .before .before in sym (made j .long ∙ j .before .before .before .before .before .before .before .before .loop .inv .3)
+slice-aggregate-write-answer-2 c = sym (made (c .before .before .before .before .before) .long)
 
 write-answer-requires : tie.Need-write-answer-requires Inv-loop μ-loop
 write-answer-requires c κs =
-    let t = c .before .before .before .before .before .before .before .before .before .before .before .before in
-    let l = t .before in
-    let s = l .before .before .before .before .before .before in
+    let t = c .before .before .before .before .before .before .before .before .before .before .before in
+    let l = c .before .before .before .before .before .before .before .before .before .before .before .before in
+    let s = c .before .before .before .before .before .before .before .before .before .before .before .before .before .before .before .before .before .before in
     (omega (arith, length-take (l .loop .count) (l .loop .digits), spells-few (l .loop .inv .1) (omega (arith, t .loop-test .taken, l .loop .inv .0 .counted, s .pre))), omega (arith, t .loop-test .taken, l .loop .inv .0 .short, l .loop .inv .0 .wrote .long, s .pre, s .good))
 
-add-at : tie.Need-add-at Inv-loop μ-loop
-add-at c =
+add-len : tie.Need-add-len Inv-loop μ-loop
+add-len c =
     let w = c .before .before in
-    let t = w .before .before .before .before .before .before .before .before .before .before .before .before .before in
-    let l = t .before in
-    let s = l .before .before .before .before .before .before in
-    omega (arith, line-short (l .loop .out) (l .loop .at) (w .write-answer .ensures (l .loop .next) (l .loop .inv .1 .text)), t .loop-test .taken, l .loop .inv .0 .short, l .loop .inv .0 .wrote .long, s .pre, s .good)
+    let t = c .before .before .before .before .before .before .before .before .before .before .before .before .before .before in
+    let l = c .before .before .before .before .before .before .before .before .before .before .before .before .before .before .before in
+    let s = c .before .before .before .before .before .before .before .before .before .before .before .before .before .before .before .before .before .before .before .before .before in
+    omega (arith, line-short (l .loop .out) (l .loop .len) (w .write-answer .ensures (l .loop .number) (l .loop .inv .1 .text)), t .loop-test .taken, l .loop .inv .0 .short, l .loop .inv .0 .wrote .long, s .pre, s .good)
 
 slice-aggregate-count-on : tie.Need-slice-aggregate-count-on Inv-loop μ-loop
-slice-aggregate-count-on c = sym (c .before .before .before .before .before .before .before .before .before .before .before .before .before .before .before .before .before .loop .inv .2)
+slice-aggregate-count-on c = sym (c .before .before .before .before .before .before .before .before .before .before .before .before .before .before .before .before .loop .inv .2)
 
 count-on-requires : tie.Need-count-on-requires Inv-loop μ-loop
 count-on-requires c κs =
-    let t = c .before .before .before .before .before .before .before .before .before .before .before .before .before .before .before .before in
-    let l = t .before in
-    let s = l .before .before .before .before .before .before in
+    let t = c .before .before .before .before .before .before .before .before .before .before .before .before .before .before .before in
+    let l = c .before .before .before .before .before .before .before .before .before .before .before .before .before .before .before .before in
+    let s = c .before .before .before .before .before .before .before .before .before .before .before .before .before .before .before .before .before .before .before .before .before .before in
     (l .loop .inv .1, omega (arith, l .loop .inv .2), omega (arith, t .loop-test .taken, l .loop .inv .0 .counted, s .pre))
 
-add-next : tie.Need-add-next Inv-loop μ-loop
-add-next c =
-    let t = c .before .before .before .before .before .before .before .before .before .before .before .before .before .before .before .before .before .before in
-    let l = t .before in
-    let s = l .before .before .before .before .before .before in
+add-number : tie.Need-add-number Inv-loop μ-loop
+add-number c =
+    let t = c .before .before .before .before .before .before .before .before .before .before .before .before .before .before .before .before .before in
+    let l = c .before .before .before .before .before .before .before .before .before .before .before .before .before .before .before .before .before .before in
+    let s = c .before .before .before .before .before .before .before .before .before .before .before .before .before .before .before .before .before .before .before .before .before .before .before .before in
     omega (arith, t .loop-test .taken, l .loop .inv .0 .counted, s .pre)
 
 add-i : tie.Need-add-i Inv-loop μ-loop
 add-i c =
-    let t = c .before .before .before .before .before .before .before .before .before .before .before .before .before .before .before .before .before .before in
-    let l = t .before in
-    let s = l .before .before .before .before .before .before in
+    let t = c .before .before .before .before .before .before .before .before .before .before .before .before .before .before .before .before .before in
+    let l = c .before .before .before .before .before .before .before .before .before .before .before .before .before .before .before .before .before .before in
+    let s = c .before .before .before .before .before .before .before .before .before .before .before .before .before .before .before .before .before .before .before .before .before .before .before .before in
     omega (arith, t .loop-test .taken, s .good)
 
 loop-less : tie.Need-loop-less Inv-loop μ-loop
 loop-less c =
-    let t = c .before .before .before .before .before .before .before .before .before .before .before .before .before .before .before .before .before .before in
-    let l = t .before in
-    let s = l .before .before .before .before .before .before in
+    let t = c .before .before .before .before .before .before .before .before .before .before .before .before .before .before .before .before .before in
+    let l = c .before .before .before .before .before .before .before .before .before .before .before .before .before .before .before .before .before .before in
+    let s = c .before .before .before .before .before .before .before .before .before .before .before .before .before .before .before .before .before .before .before .before .before .before .before .before in
     omega (arith, t .loop-test .taken)
 
 loop-again : tie.Need-loop-again Inv-loop μ-loop
 loop-again c =
     let n = c .before in
-    let w = n .before .before .before .before in
-    let j = w .before .before .before .before .before .before in
-    let a = j .before in
-    let r = a .before in
-    let y = r .before in
-    let x = y .before in
-    let f = x .before in
-    let t = f .before .before in
-    let l = t .before in
-    let s = l .before .before .before .before .before .before in
-    let line = w .write-answer .ensures (l .loop .next) (l .loop .inv .1 .text) in
+    let w = c .before .before .before .before .before in
+    let x = c .before .before .before .before .before .before .before .before in
+    let j = c .before .before .before .before .before .before .before .before .before .before .before in
+    let f = c .before .before .before .before .before .before .before .before .before .before .before .before .before .before .before in
+    let t = c .before .before .before .before .before .before .before .before .before .before .before .before .before .before .before .before .before in
+    let l = c .before .before .before .before .before .before .before .before .before .before .before .before .before .before .before .before .before .before in
+    let s = c .before .before .before .before .before .before .before .before .before .before .before .before .before .before .before .before .before .before .before .before .before .before .before .before in
     let bytes = f .first .ensures ∙ ap (take 24) (f .before .from .ensures) in
-    let obeys = at-record _ _ _ _ _ _ (l .loop .command) _ _ (l .loop .inv .3) (x .byte-at .ensures) (y .byte-at2 .ensures) (a .arguments .ensures) (r .read .ensures) (made j) line in
-    (begun-more (s .pre .2) (t .loop-test .taken) bytes (l .loop .inv .0) obeys, n .count-on .ensures, search needs, made j .long ∙ l .loop .inv .3)
+    let line = w .write-answer .ensures (l .loop .number) (l .loop .inv .1 .text) in
+    let obeys = at-record (l .loop .number) (now (f .first .result)) (x .byte-at3 .ensures) (made j) line in
+    (begun-more (s .pre .2) (t .loop-test .taken) bytes (l .loop .inv .0) obeys, n .count-on .ensures, search needs, made j .long)
 
 same-length : tie.Need-same-length Inv-loop μ-loop
 same-length c = search needs
@@ -225,30 +303,41 @@ obey-all-spec =
     from-requires
     first-requires
     byte-at-requires
-    byte-at-requires-2
-    read-requires
     arguments-requires
-    enum-known-ask
-    do-deed-requires
-    enum-known-ask-2
-    slice-aggregate-give
-    give-requires
-    enum-known-ask-3
-    name-requires
-    enum-told
-    unasked-requires
-    add-end
+    call-letter-requires
+    request-requires
+    install-requires
+    byte-at-requires-2
+    from-requires-2
+    new-entry-requires
+    value-of-requires
+    set-event-requires
+    value-of-requires-2
+    clear-event-requires
+    profile-requires
+    envelope-requires
+    settled-requires
+    slice-aggregate-system-command
+    system-command-requires
+    response-requires
+    allocate-requires
+    delete-requires
+    lock-requires
+    unlock-requires
+    no-call-requires
+    add-line
     sub-line
     part-line-start
     part-line-end
+    byte-at-requires-3
     array-share-prefix-digits
     slice-aggregate-write-answer
     slice-aggregate-write-answer-2
     write-answer-requires
-    add-at
+    add-len
     slice-aggregate-count-on
     count-on-requires
-    add-next
+    add-number
     add-i
     loop-less
     loop-again

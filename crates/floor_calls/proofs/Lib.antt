@@ -1,2 +1,0 @@
--- What is asked for, known by its case.
-pub mod AskLaws

@@ -1,2 +1,0 @@
--- What a record of the floor program asks for.
-pub mod Asks

@@ -1,2 +1,0 @@
--- What is made of an order.
-pub mod Posts
