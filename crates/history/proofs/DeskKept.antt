@@ -4,15 +4,14 @@ use mathlib.Core.Path.{_≡_, refl, ap, _∙_}
 use mathlib.Core.Bool.{Bool, true, false, not}
 use mathlib.Core.List.{List, [], _∷_}
 use lib.ListN.{length}
-use lib.Dec.{eqb·suc-zero}
 use Rattle.lists.specs.Tests.{if_then_else_, _==_}
 use Rattle.lists.specs.Lists.{some?}
 use Rattle.rules.specs.declared.Due.{Due}
 use Rattle.rules.specs.Holds.{Tables, Desk, Model}
-use Rattle.rules.specs.Commands.{menuBytes, eventBytes, commandBytes}
-use Rattle.rules.specs.Desk.{marked, withProfile, withMarks, changes, either, Matter, menu, eventList, commandFor, dueMatters, firstCommand, dueCommand, withFirst, withHandedOut}
+use Rattle.rules.specs.Desk.{marked, withProfile, withMarks, changes, either, Matter, dueMatters, firstCommand, dueCommand, withFirst, withHandedOut}
 use Rattle.rules.specs.Calls.{Call, admin, event, entry, timer, arrival, settled, proactive, systemCommand, envelope, profile, send, response}
 use Rattle.rules.specs.Step.{arrivalDesk, proactiveDesk, deskAfter, tablesAfter, changed, answer}
+use Rattle.rules.proofs.DueMarks.{command-some}
 use Rattle.history.specs.Histories.{did, History}
 use Rattle.history.specs.Named.{inSession, isOutstanding}
 use Rattle.history.proofs.Open.{reading}
@@ -32,13 +31,12 @@ marks-leave g k before after d = go (d .session)
 -- a command that is due is handed out, and has a length
 handed-out : (t : Tables) (d : Desk)
     → withHandedOut d .outstanding ≡ (if not (length (dueCommand t d) == 0) then true else d .outstanding)
-unfolding withHandedOut withFirst dueCommand firstCommand commandFor menuBytes eventBytes commandBytes
+unfolding withHandedOut withFirst dueCommand firstCommand
 handed-out t d = go (dueMatters (d .due))
   where
     go : (l : List Matter) → withFirst d l .outstanding ≡ (if not (length (firstCommand t (d .title) l) == 0) then true else d .outstanding)
     go [] = refl
-    go (menu ∷ l) = rw (eqb·suc-zero _) refl
-    go (eventList ∷ l) = rw (eqb·suc-zero _) refl
+    go (x ∷ l) = rw (command-some t (d .title) x) refl
 
 session-after : (m : Model) (h : History) (c : Call) → AgreeDesk (m .desk) h
     → deskAfter m c .session ≡ inSession (did c (answer m c) ∷ h)

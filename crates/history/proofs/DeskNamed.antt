@@ -1,30 +1,27 @@
--- THE DESK over any calls: the title is the one given when the card was made, the profile is the last accepted one's first 32 bytes; and
--- what handing out does. Assumes nothing.
+-- THE DESK over any calls: the title is the one given when the card was made, the profile is the last accepted one's first 32 bytes.
+-- Assumes nothing.
 use Prim.Native.Nat.{ℕ, zero, suc, _≤_, _<_}
 use native.Mathlib.Omega.{arith}
-use mathlib.Core.Path.{_≡_, refl, sym, ap, ap₂, _∙_}
+use mathlib.Core.Path.{_≡_, refl, sym, ap, _∙_}
 use mathlib.Core.Bool.{Bool, true, false}
-use mathlib.Core.List.{List, [], _∷_, _++_}
-use lib.ListN.{length, take, drop, replicate}
+use mathlib.Core.List.{List, [], _∷_}
+use lib.ListN.{length, replicate}
 use borrow.Author.Tests.{lt-ltb, ltb-true}
-use Rattle.lists.specs.Tests.{if_then_else_, _<?_}
+use Rattle.lists.specs.Tests.{_<?_}
 use Rattle.lists.specs.Lists.{keep}
-use Rattle.rules.specs.Holds.{Bounds, Desk, Model, document, fresh}
-use Rattle.rules.specs.Commands.{shownMenu, shownEvents, menuOf, menuBytes, eventBytes}
-use Rattle.rules.specs.Desk.{Matter, marked, withMarks, withProfile, handedOut, dueMatters, dueCommand, withFirst, withHandedOut}
-use Rattle.rules.specs.Calls.{Call, Outcome, numbered, admin, event, entry, timer, arrival, settled, proactive, systemCommand, envelope, profile, send, response}
+use Rattle.rules.specs.Holds.{Bounds, Model, document, fresh}
+use Rattle.rules.specs.Desk.{Matter, withProfile, dueMatters, withFirst, withHandedOut}
+use Rattle.rules.specs.Calls.{Call, admin, event, entry, timer, arrival, settled, proactive, systemCommand, envelope, profile, send, response}
 use Rattle.rules.specs.Refusals.{firstHolding, refusal}
-use Rattle.rules.specs.Step.{arrivalDesk, proactiveDesk, deskAfter, tablesAfter, changed, answer, written, front, outcome, step}
+use Rattle.rules.specs.Step.{arrivalDesk, proactiveDesk, deskAfter, tablesAfter, changed, answer, outcome, step}
 use Rattle.rules.specs.Beside.{freshBy, freshCard}
 use Rattle.rules.specs.Runs.{cardAfter}
-use Rattle.rules.proofs.DueMarks.{marked-same, first-due, first-handed}
 use Rattle.runs.proofs.Run.{desk-lasts, marked-lasts}
 use Rattle.history.specs.Histories.{History, did, accepted}
 use Rattle.history.specs.Named.{profileBytes, profileNamed}
 use Rattle.history.specs.Runs.{historyOf}
 use Rattle.history.proofs.Open.{reading}
 use Rattle.history.proofs.Agrees.{accepted-more, accepted-same, plain}
-use Rattle.history.proofs.Answered.{passes}
 use Rattle.history.proofs.DeskKept.{marks-leave}
 use Rattle.history.proofs.Promises.{m, past}
 
@@ -93,36 +90,3 @@ pub profile-is-the-last-one : (title : List ℕ) (calls : List Call) → m title
 unfolding cardAfter historyOf step freshCard accepted keep profileNamed
 profile-is-the-last-one title [] = profile-fresh _ title
 profile-is-the-last-one title (c ∷ calls) = profile-call (m title calls) (historyOf title calls) c _ (profile-is-the-last-one title calls)
-
--- HANDING OUT, on any card: an accepted system command.
-module _ (x : Model) (buffer : List ℕ) (ok : step x (systemCommand buffer) .answer .refusal ≡ 0) where
-  -- these bytes at the front of the buffer with the rest of it left, their length as the answer, and the desk afterwards
-  abbrev pub handing : (bytes : List ℕ) → Desk → Outcome
-  handing bytes d = record { after = record { tables = x .tables; desk = d }; answer = numbered (length bytes); buffer = bytes ++ drop (length bytes) buffer }
-
-  hands : (bytes : List ℕ) (d : Desk) → dueCommand (x .tables) (x .desk) ≡ bytes → withHandedOut (x .desk) ≡ d → step x (systemCommand buffer) ≡ handing bytes d
-  unfolding step outcome changed tablesAfter deskAfter answer written front
-  hands bytes d p q =
-      ap (λ (k : ℕ). outcome k x (systemCommand buffer)) (passes x (systemCommand buffer) ok)
-      ∙ ap₂ (λ (s : List ℕ) (e : Desk). handing s (marked (x .tables) (x .tables) e)) p q
-      ∙ ap (handing bytes) (marked-same (x .tables) d)
-
-  -- the menu first: its command is written, its mark cleared, the other left, and a command is outstanding ..
-  pub hands-out-the-menu : x .desk .due .menu ≡ true
-      → step x (systemCommand buffer) ≡ handing (menuBytes (menuOf (x .desk .title) (shownMenu (x .tables)))) (withMarks (x .desk) true (record { menu = false; events = x .desk .due .events }))
-  unfolding handedOut
-  hands-out-the-menu e =
-      hands (menuBytes (menuOf (x .desk .title) (shownMenu (x .tables)))) (withMarks (x .desk) true (record { menu = false; events = x .desk .due .events }))
-      (first-due (x .tables) (x .desk) ∙ rw e refl) (first-handed (x .desk) ∙ rw e refl)
-
-  -- .. then the event list ..
-  pub hands-out-the-event-list : x .desk .due .menu ≡ false → x .desk .due .events ≡ true
-      → step x (systemCommand buffer) ≡ handing (eventBytes (shownEvents (x .tables))) (withMarks (x .desk) true (record { menu = false; events = false }))
-  unfolding handedOut
-  hands-out-the-event-list e f =
-      hands (eventBytes (shownEvents (x .tables))) (withMarks (x .desk) true (record { menu = false; events = false }))
-      (first-due (x .tables) (x .desk) ∙ rw (e, f) refl) (first-handed (x .desk) ∙ rw (e, f) refl)
-
-  -- .. and nothing due gives length 0, leaves every byte, and makes nothing outstanding: the card is as it was.
-  pub hands-out-nothing : x .desk .due .menu ≡ false → x .desk .due .events ≡ false → step x (systemCommand buffer) ≡ record { after = x; answer = numbered 0; buffer = buffer }
-  hands-out-nothing e f = hands [] (x .desk) (first-due (x .tables) (x .desk) ∙ rw (e, f) refl) (first-handed (x .desk) ∙ rw (e, f) refl)

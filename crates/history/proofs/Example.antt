@@ -11,6 +11,7 @@ use Rattle.lists.proofs.Decided.{clashing}
 use Rattle.rules.specs.Holds.{Row, document}
 use Rattle.rules.specs.Commands.{Item}
 use Rattle.rules.specs.Runs.{cardAfter}
+use Rattle.rules.specs.Desk.{menu, eventList, dueMatters}
 use Rattle.rules.specs.Calls.{Call, AdminCall, admin, event, entry, timer, arrival, settled, proactive, systemCommand, lock, unlock, delete, setEvent, newEntry, changeEntry, disableEntry, allocate, release, profile, response}
 use Rattle.rules.proofs.Compute.{compute}
 use Rattle.rules.specs.Cases.{plain}
@@ -79,7 +80,7 @@ pub record Examples : Type 0 where
   -- six items are handed out, and one code; the lock makes both due and leaves the screen; two hand-outs mend it
   pub six-shown : onScreen first ≡ 128 ∷ 129 ∷ 130 ∷ 131 ∷ 132 ∷ 133 ∷ []
   pub six-left : onScreen locked ≡ 128 ∷ 129 ∷ 130 ∷ 131 ∷ 132 ∷ 133 ∷ []
-  pub both-due : cardAfter document [] locked .desk .due ≡ record { menu = true; events = true }
+  pub both-due : dueMatters (cardAfter document [] locked .desk .due) ≡ menu ∷ eventList ∷ []
   pub three-shown : onScreen again ≡ 131 ∷ 132 ∷ 133 ∷ []
   pub one-code : codesHanded (seenOf [] locked) ≡ 0x00 ∷ []
   pub no-code : codesHanded (seenOf [] again) ≡ []

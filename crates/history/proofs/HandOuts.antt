@@ -50,6 +50,13 @@ module _ (m : Model) (buffer : List ℕ) where
         cleared d false true p q = unfold handedOut in rw p refl
         cleared d false false p q = rw (p, q) refl
 
+    -- nothing due leaves the card
+    pub nothing-due : m .desk .due .menu ≡ false → m .desk .due .events ≡ false → step m (systemCommand buffer) .after ≡ m
+    unfolding outcome changed tablesAfter deskAfter
+    nothing-due e f =
+        ap (λ (o : Outcome). o .after) hands-out
+        ∙ ap (λ (d : Desk). record { tables = m .tables; desk = d }) (marked-same (m .tables) (withHandedOut (m .desk)) ∙ first-handed (m .desk) ∙ rw (e, f) refl)
+
 -- a response, accepted or not, leaves nothing outstanding, and due what was due
 pub responded : (m : Model)
     → (step m (proactive response) .after .desk .outstanding ≡ false) × (step m (proactive response) .after .desk .due ≡ m .desk .due)

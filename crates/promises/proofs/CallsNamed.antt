@@ -34,8 +34,8 @@ use Rattle.history.specs.OnScreen.{command, ScreenRight}
 use Rattle.history.proofs.Answered.{passes, answers, refuses}
 use Rattle.history.proofs.OneShot.{Each, waits, only-settled-arrives-so}
 use Rattle.history.proofs.Promises as runs
-use Rattle.history.proofs.DeskNamed.{title-is-the-one-given, hands-out-nothing}
-use Rattle.history.proofs.HandOuts.{handed-due}
+use Rattle.history.proofs.DeskNamed.{title-is-the-one-given}
+use Rattle.history.proofs.HandOuts.{handed-due, nothing-due}
 use Rattle.history.proofs.Screen.{screen-is-right}
 use Rattle.history.proofs.MenuOrder.{AlwaysInUse, rows-keep-their-order, new-row-at-its-place, new-row-last-for-0, new-row-last-behind-all}
 use Rattle.promises.specs.Watched.{calledBy}
@@ -196,7 +196,7 @@ module _ (title : List ℕ) (calls : List Call) (x : Call) where
             read-back = λ q. ap (menuReader document) by ∙ does .menu-first q ∙ sym (ap (λ (r : List Row). readAs (menuOf (titleOf title) (keep (isShown (h title calls)) r))) (rows-are title calls));
             then-events = λ p q. by ∙ does .then-events p q;
             else-nothing = λ p q.
-                (by ∙ does .else-nothing p q, ap (λ (y : Call). stored (step (m title calls) y .after)) e ∙ ap (λ (o : Outcome). stored (o .after)) (hands-out-nothing (m title calls) buffer ok p q));
+                (by ∙ does .else-nothing p q, ap (λ (y : Call). stored (step (m title calls) y .after)) e ∙ ap stored (nothing-due (m title calls) buffer (passes (m title calls) (systemCommand buffer) ok) p q));
             at-the-front = ap (λ (y : Call). step (m title calls) y .buffer) e ∙ front-so (m title calls) buffer ok ∙ ap (λ (b : List ℕ). front b buffer) (sym (by ∙ due));
             clears = ap (λ (y : Call). step (m title calls) y .after .desk .due) e ∙ does .clears;
           }

@@ -1,18 +1,21 @@
 -- A call that changes no table marks nothing due; and what is handed out, the menu first and then the event list.
 -- Assumes nothing.
+use Prim.Native.Nat.{ℕ}
 use mathlib.Core.Path.{_≡_, refl}
 use mathlib.Core.Bool.{Bool, true, false}
-use mathlib.Core.List.{[], _∷_}
+use mathlib.Core.List.{List, [], _∷_}
+use lib.ListN.{length}
+use lib.Dec.{eqb·suc-zero}
 use borrow.Author.Tests.{eq-eqb}
-use Rattle.lists.specs.Tests.{if_then_else_}
+use Rattle.lists.specs.Tests.{if_then_else_, _==_}
 use Rattle.lists.specs.Lists.{keep}
 use Rattle.lists.proofs.Truth.{or-false, beq-self}
 use Rattle.lists.proofs.Alike.{alike-self, same-self}
 use Rattle.rules.specs.declared.Due.{Due}
 use Rattle.rules.specs.Holds.{Row, Tables, Desk, nothingDue}
-use Rattle.rules.specs.Commands.{shownMenu, shownEvents, menuOf, menuBytes, eventBytes}
+use Rattle.rules.specs.Commands.{shownMenu, shownEvents, menuOf, menuBytes, eventBytes, commandBytes}
 use Rattle.rules.specs.Desk.{sameRow?, menuChanges, eventsChange, changes, either, marked, withMarks}
-use Rattle.rules.specs.Desk.{menu, eventList, isDue, handedOut, commandFor, dueMatters, firstCommand, dueCommand, withFirst, withHandedOut}
+use Rattle.rules.specs.Desk.{Matter, menu, eventList, isDue, handedOut, commandFor, dueMatters, firstCommand, dueCommand, withFirst, withHandedOut}
 
 pub row-self : (r : Row) → sameRow? r r ≡ true
 unfolding sameRow?
@@ -33,6 +36,12 @@ marked-same t d = rw (due-self (d .due) (changes t t) (changes-none t)) (go (d .
     go : (s : Bool) → (if s then d else d) ≡ d
     go true = refl
     go false = refl
+
+-- whatever is due, its command is no empty one
+pub command-some : (t : Tables) (title : List ℕ) (x : Matter) → (length (commandFor t title x) == 0) ≡ false
+unfolding commandFor menuBytes eventBytes commandBytes
+command-some t title menu = rw (eqb·suc-zero _) refl
+command-some t title eventList = rw (eqb·suc-zero _) refl
 
 -- what is handed out, case by case
 pub first-due : (t : Tables) (d : Desk)
