@@ -42,8 +42,9 @@ use Rattle.card.specs.declared.Reply.{Reply}
 use Rattle.card.specs.View.{view, stored, Left}
 use Rattle.card.specs.Replies.{replied}
 use Rattle.card.proofs.Left.{left-form, left-sound, left-bounds}
-use Rattle.card.proofs.Marks.{withDue, due-desk}
-use Rattle.card.proofs.Replied.{replies, tablesBy, after-by, answer-by, card-is, roll-form, selectable-form, registered-form, made-form, desk-form}
+use Rattle.card.proofs.Marks.{menuAndEvents, withBothDue, both-desk}
+use Rattle.card.proofs.Turned.{admin-turns}
+use Rattle.card.proofs.Replied.{replies, tablesBy, after-by, answer-by, card-is, roll-form, selectable-form, registered-form, made-form}
 use Rattle.card.proofs.Present.{present-by, gone-by, low-is, high-is, selectable-has}
 use Rattle.card.proofs.Listeners.{set-is, codes-by}
 
@@ -137,13 +138,13 @@ module _ (c : Card) (left : Left c) (n : ℕ) (there : has? (c .roll .present) n
       → control ≡ forget n (c .control)
       → rows ≡ storedRows (withoutRows n (viewRows (c .rows)))
       → _≡_ {A = Card}
-      (record { roll = roll; selectable = s; registered = g; made = f; control = control; rows = rows; bank = bank; desk = withDue (c .desk) x y })
+      (record { roll = roll; selectable = s; registered = g; made = f; control = control; rows = rows; bank = bank; desk = withBothDue (c .desk) x y })
       (stored (record { tables = u; desk = marked t u (m .desk) }))
   removes ss mv ev mx my rl rg md bk ct rs =
       card-is (record { tables = u; desk = marked t u (m .desk) })
       (rl ∙ roll-next) (ss ∙ selectable-next) (rg ∙ registered-next) (md ∙ made-next)
       (ct ∙ control-next) (rs ∙ rows-next) (bk ∙ timers-next)
-      (due-desk t u (m .desk) (desk-form c left) (mv ∙ menu-differs) (ev ∙ ap (λ (k : ℕ). anyCode (codeTurns (c .registered) (c .selectable) k)) ss ∙ events-differ) mx my)
+      (both-desk c left u (admin-turns t (delete n) ∙ sym (ap₂ menuAndEvents (mv ∙ menu-differs) (ev ∙ ap (λ (k : ℕ). anyCode (codeTurns (c .registered) (c .selectable) k)) ss ∙ events-differ))) mx my)
     where
       control-next : forget n (c .control) ≡ u .control
       control-next = unfold adminTables view in refl

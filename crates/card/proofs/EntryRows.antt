@@ -23,19 +23,18 @@ use Rattle.rules.specs.Holds.{Row, Bounds, Tables, withRows}
 use Rattle.rules.specs.Held.{noRow, viewRows, storedRows, storedAnswer}
 use Rattle.rules.specs.Applets.{nobody, present, applet}
 use Rattle.rules.specs.Rows.{itsRow, withText, withEnabled}
-use Rattle.rules.specs.Desk.{menuChanges, eventsChange, marked}
+use Rattle.rules.specs.Desk.{menuChanges, changes, marked}
 use Rattle.rules.specs.Calls.{EntryCall, entry, changeEntry, accepted, refusedWith}
 use Rattle.rules.specs.Refusals.{line, firstHolding, refusal}
 use Rattle.rules.specs.Step.{step, outcome, changed, tablesAfter, deskAfter, entryTables, answer, entryAnswer}
 use Rattle.runs.specs.Sound.{SoundRow, SoundTables}
-use Rattle.runs.proofs.Looked.{sound-applet, number-from, number-to}
+use Rattle.runs.proofs.Looked.{sound-applet}
 use Rattle.runs.proofs.Filled.{ChangesEntry, changes-entry}
 use Rattle.applets.specs.ByNumber.{byNumber, grantOf, rollOf, selectableSet, registeredSet, madeTable}
 use Rattle.menu_shown.proofs.RowTurns.{enabled-shows, text-shows}
 use Rattle.menu_entries.specs.declared.Touched.{Touched}
 use Rattle.menu_entries.specs.ItsRow.{markedBy, rewordedBy}
 use Rattle.menu_entries.proofs.Its.{its-known, its-marked, its-reworded, none-marked, none-reworded, kept-reworded, marked-says, reworded-says}
-use Rattle.events_shown.proofs.Quiet.{rows-events}
 use Rattle.refusals.specs.Lines.{unfitText}
 use Rattle.refusals.proofs.Calls.{turning, turn-refusal, change-refusal}
 use Rattle.card.specs.declared.Card.{Card}
@@ -43,9 +42,10 @@ use Rattle.card.specs.declared.Reply.{Reply}
 use Rattle.card.specs.View.{view, stored, Left}
 use Rattle.card.specs.Replies.{replied}
 use Rattle.card.proofs.Left.{left-form, left-sound, left-bounds}
-use Rattle.card.proofs.Marks.{withDue, due-desk, unmarked}
-use Rattle.card.proofs.Replied.{replies, answer-by, card-is, roll-form, selectable-form, registered-form, made-form, control-form, rows-form, bank-form, desk-form}
-use Rattle.card.proofs.Present.{present-by, found-by, grant-is, selectable-has}
+use Rattle.card.proofs.Marks.{onlyMenu, withMenuDue, unmarked, menu-desk}
+use Rattle.card.proofs.Turned.{rows-turn}
+use Rattle.card.proofs.Replied.{replies, answer-by, card-is, roll-form, selectable-form, registered-form, made-form, control-form, rows-form, bank-form}
+use Rattle.card.proofs.Present.{present-by, found-by, grant-is, selectable-there}
 
 -- what an accepted call about entries leaves, and that a refused one leaves the card
 module _ (c : Card) (left : Left c) (y : EntryCall) {r : ℕ} (e : r ≡ refusal (view c) (entry y)) where
@@ -64,7 +64,7 @@ module _ (c : Card) (left : Left c) (y : EntryCall) {r : ℕ} (e : r ≡ refusal
 -- THE CARD AFTER A CALL ABOUT ENTRIES: the rows, how many entries are made, and whether the menu is due
 abbrev pub withEntries : Card → (made : List ℕ) → Rows → (due : Bool) → Card
 withEntries c made rows due =
-    record { roll = c .roll; selectable = c .selectable; registered = c .registered; made = made; control = c .control; rows = rows; bank = c .bank; desk = withDue (c .desk) due (c .desk .due .events) }
+    record { roll = c .roll; selectable = c .selectable; registered = c .registered; made = made; control = c .control; rows = rows; bank = c .bank; desk = withMenuDue (c .desk) due }
 
 module _ (c : Card) (left : Left c) (u : Tables) where
   abbrev t : Tables
@@ -76,26 +76,17 @@ module _ (c : Card) (left : Left c) (u : Tables) where
       → ((e : ℕ) → registeredSet (u .applets) e ≡ registeredSet (t .applets) e)
       → u .control ≡ t .control
       → u .timers ≡ t .timers
-      → eventsChange t u ≡ false
-      → {made : List ℕ} {next : Rows} {menu x : Bool}
+      → {made : List ℕ} {next : Rows} {turns x : Bool}
       → made ≡ madeTable (u .applets)
       → next ≡ storedRows (u .rows)
-      → menu ≡ menuChanges t u
-      → x ≡ (c .desk .session && menu || c .desk .due .menu)
+      → changes t u ≡ onlyMenu turns
+      → x ≡ (c .desk .session && turns || c .desk .due .menu)
       → withEntries c made next x ≡ stored (record { tables = u; desk = marked t u (view c .desk) })
-  entry-card roll sel reg own timers quiet many rows turns x =
+  entry-card roll sel reg own timers many rows turns x =
       card-is (record { tables = u; desk = marked t u (view c .desk) })
       (roll-form c left ∙ sym roll) (selectable-form c left ∙ sym sel) (registered-form c left ∙ table-alike 20 _ _ (λ e h. sym (reg e))) many
       (control-form c left ∙ sym own) rows (bank-form c left ∙ sym timers)
-      (due-desk t u (view c .desk) (desk-form c left) turns (sym quiet) x (unmarked (c .desk .session) (c .desk .due .events)))
-
--- whether an applet that is there is selectable
-pub selectable-there : (c : Card) (left : Left c) (n : ℕ) → present (view c .tables) n ≡ true → has? (c .selectable) n ≡ applet (view c .tables) n .selectable
-unfolding applet
-selectable-there c left n there =
-    let sound = left-sound c left .tables in
-    let eight : view c .tables .bounds .applets ≡ 8 = ap (λ (b : Bounds). b .applets) (left-bounds c left) in
-    selectable-has c left n (number-from (view c .tables) sound n there) (omega (arith, number-to (view c .tables) sound n there, eight))
+      (menu-desk c left u turns x)
 
 -- the owner of a row is there
 owner-there : (t : Tables) → SoundTables t → (n i : ℕ) → some? (itsRow n i) (t .rows) ≡ true → present t n ≡ true
@@ -128,8 +119,8 @@ module _ (c : Card) (left : Left c) (n : ℕ) (y : EntryCall) {r : ℕ} (e : r �
     rows-changed z rows here ts shows nx =
         let t = view c .tables in
         leaves
-        (entry-card c left (withRows t rows) refl refl (λ e. refl) refl refl (rows-events t rows) (made-form c left) nx
-        (ap (λ (b : Bool). b && w .turns) (sh ∙ selectable-there c left n here) ∙ sym shows) due
+        (entry-card c left (withRows t rows) refl refl (λ e. refl) refl refl (made-form c left) nx
+        (rows-turn t rows ∙ ap onlyMenu (shows ∙ ap (λ (b : Bool). b && w .turns) (sym (sh ∙ selectable-there c left n here)))) due
         ∙ ap (λ (s : Tables). stored (record { tables = s; desk = marked t s (view c .desk) })) (sym ts)
         ∙ ap stored (sym (entry-after c left y e z)))
 

@@ -25,9 +25,10 @@ use Rattle.rules.specs.Holds.{Applet, Tables, Model, withApplets, withControl, 
 use Rattle.rules.specs.Events.{kindOf, callControl, isControl}
 use Rattle.rules.specs.Applets.{hasNumber, present, applet, forget, register, withRegistration, ownedByAnother}
 use Rattle.rules.specs.Calls.{EventCall, event, setEvent, clearEvent, accepted, refusedWith}
-use Rattle.rules.specs.Desk.{menuChanges, eventsChange, marked}
+use Rattle.rules.specs.Desk.{eventsChange, changes, marked}
 use Rattle.rules.specs.Refusals.{line, lines, absent, eventLines, refusal}
 use Rattle.rules.specs.Step.{step, tablesAfter, eventTables, deskAfter, answer, eventAnswer}
+use Rattle.rules.proofs.DueMarks.{changes-none}
 use Rattle.events.specs.Place.{placeOf}
 use Rattle.events.proofs.Places.{place-within}
 use Rattle.runs.specs.Sound.{SoundTables}
@@ -35,7 +36,6 @@ use Rattle.runs.proofs.Looked.{sound-applet}
 use Rattle.runs.proofs.Registered.{changed-sound}
 use Rattle.applets.specs.ByNumber.{at, rollOf, selectableSet, registeredSet, madeTable}
 use Rattle.applets.proofs.Numbers.{at-change, roll-kept, selectable-kept, registered-kept, made-kept}
-use Rattle.menu_shown.proofs.MenuByApplets.{register-menu}
 use Rattle.events_shown.specs.Turns.{isDownload, eventsTurn}
 use Rattle.events_shown.proofs.Quiet.{control-events}
 use Rattle.refusals.proofs.Calls.{eventRefusal, event-known}
@@ -46,8 +46,9 @@ use Rattle.card.specs.Replies.{replied}
 use Rattle.rules.specs.Held.{storedAnswer}
 use Rattle.card.specs.Turns.{setAfter, ownerAfter}
 use Rattle.card.proofs.Left.{left-sound, left-bounds}
-use Rattle.card.proofs.Marks.{withDue, unmarked}
-use Rattle.card.proofs.Present.{present-by, found-by, menu-same, events-none}
+use Rattle.card.proofs.Marks.{onlyEvents, withEventsDue, events-desk}
+use Rattle.card.proofs.Turned.{event-turns}
+use Rattle.card.proofs.Present.{present-by, found-by}
 use Rattle.card.proofs.Listeners.{set-is, event-by}
 use Rattle.card.proofs.Replied.{replies, tablesBy, after-by, answer-by, next-card, selectable-form, registered-form, control-form}
 
@@ -75,17 +76,16 @@ module _ (c : Card) (left : Left c) (u : Tables) where
       → madeTable (u .applets) ≡ madeTable (t .applets)
       → u .rows ≡ t .rows
       → u .timers ≡ t .timers
-      → menuChanges t u ≡ false
       → {g : List ℕ} {o : ℕ} {due turns : Bool}
       → g ≡ table 20 (registeredSet (u .applets))
       → o ≡ u .control
-      → turns ≡ eventsChange t u
+      → changes t u ≡ onlyEvents turns
       → due ≡ (c .desk .session && turns || c .desk .due .events)
       → _≡_ {A = Card}
-      (record { roll = c .roll; selectable = c .selectable; registered = g; made = c .made; control = o; rows = c .rows; bank = c .bank; desk = withDue (c .desk) (c .desk .due .menu) due })
+      (record { roll = c .roll; selectable = c .selectable; registered = g; made = c .made; control = o; rows = c .rows; bank = c .bank; desk = withEventsDue (c .desk) due })
       (stored (record { tables = u; desk = marked t u (view c .desk) }))
-  events-card roll sel made rows timers menu reg own ev due =
-      next-card c left u roll made rows timers (selectable-form c left ∙ sym sel) reg own (sym menu) ev (unmarked (c .desk .session) (c .desk .due .menu)) due
+  events-card roll sel made rows timers reg own turns due =
+      next-card c left u roll made rows timers (selectable-form c left ∙ sym sel) reg own (events-desk c left u turns due)
 
 -- a set that stays turns nothing
 unturned : (p was s : ℕ) → false ≡ eventsTurn p was was s
@@ -208,15 +208,11 @@ module _
     is-here : r ≡ 0 → present (m .tables) n ≡ true
     is-here z = sym (found ∙ present-by c left n) ∙ event-known there k _ (sym refused ∙ z) .0
 
-    menu-stays : menuChanges (m .tables) (withRegistration (m .tables) n p on) ≡ false
-    unfolding register
-    menu-stays = register-menu (m .tables) n (Event p) on
-
     -- what the struct holds after the call, where the tables are u
     abbrev After : (set owner : ℕ) (due : Bool) → Tables → Type 0
     After g o due u =
         _≡_ {A = Card}
-        (record { roll = c .roll; selectable = c .selectable; registered = set (c .registered) p g; made = c .made; control = o; rows = c .rows; bank = c .bank; desk = withDue (c .desk) (c .desk .due .menu) due })
+        (record { roll = c .roll; selectable = c .selectable; registered = set (c .registered) p g; made = c .made; control = o; rows = c .rows; bank = c .bank; desk = withEventsDue (c .desk) due })
         (stored (record { tables = u; desk = marked (m .tables) u (m .desk) }))
 
     module _
@@ -242,8 +238,8 @@ module _
             let own : o ≡ c .control = owns ∙ rw z refl in
             let tables : tablesBy m (event call) r ≡ m .tables = rw z refl in
             rw tables
-            (events-card c left (m .tables) refl refl refl refl refl (menu-same (m .tables))
-            (sets-stay same) (own ∙ control-form c left) (turns-none same ∙ sym (events-none (m .tables))) marks)
+            (events-card c left (m .tables) refl refl refl refl refl
+            (sets-stay same) (own ∙ control-form c left) (changes-none (m .tables) ∙ ap onlyEvents (sym (turns-none same))) marks)
 
         when-control : (r == 0) ≡ true → (p == callControl) ≡ true → After g o due (tablesBy m (event call) r)
         when-control z q =
@@ -252,9 +248,9 @@ module _
             let u = withControl (m .tables) (if on then n else forget n (m .tables .control)) in
             let is : withRegistration (m .tables) n p on ≡ u = by-owner (m .tables) n p on q in
             rw (accepted-tables (eqb-true r 0 z), is)
-            (events-card c left u refl refl refl refl refl (ap (menuChanges (m .tables)) (sym is) ∙ menu-stays)
+            (events-card c left u refl refl refl refl refl
             (sets-stay same) (own ∙ ap (λ (j : ℕ). if on then n else forget n j) (control-form c left))
-            (turns-none same ∙ sym (control-events (m .tables) (if on then n else forget n (m .tables .control)))) marks)
+            (rw is at (event-turns (m .tables) n p on) ∙ ap onlyEvents (control-events (m .tables) (if on then n else forget n (m .tables .control)) ∙ sym (turns-none same))) marks)
 
         when-event : (r == 0) ≡ true → (p == callControl) ≡ false → After g o due (tablesBy m (event call) r)
         when-event z q =
@@ -265,9 +261,9 @@ module _
             let here′ : present (m .tables) n ≡ true = is-here (eqb-true r 0 z) in
             rw (accepted-tables (eqb-true r 0 z), is)
             (events-card c left u (roll-same c left n p on in-table here′) (selectable-same c left n p on in-table here′) (made-same c left n p on in-table here′)
-            refl refl (ap (menuChanges (m .tables)) (sym is) ∙ menu-stays)
+            refl refl
             (ap (set (c .registered) p) turns-to ∙ sets-are c left n p on in-table here′) (own ∙ control-form c left)
-            (ev ∙ ap (λ (s : ℕ). eventsTurn p was′ s (c .selectable)) turns-to ∙ events-differ c left n p on in-table here′) marks)
+            (rw is at (event-turns (m .tables) n p on) ∙ ap onlyEvents (sym (ev ∙ ap (λ (s : ℕ). eventsTurn p was′ s (c .selectable)) turns-to ∙ events-differ c left n p on in-table here′))) marks)
 
         card-after : After g o due (tablesBy m (event call) r)
         card-after = go (r == 0) (p == callControl) refl refl
@@ -280,7 +276,7 @@ module _
         pub turns-event : {a : Answer} → a ≡ storedAnswer (refusedWith r)
             → _≡_ {A = Reply}
             (record {
-              card = record { roll = c .roll; selectable = c .selectable; registered = set (c .registered) p g; made = c .made; control = o; rows = c .rows; bank = c .bank; desk = withDue (c .desk) (c .desk .due .menu) due };
+              card = record { roll = c .roll; selectable = c .selectable; registered = set (c .registered) p g; made = c .made; control = o; rows = c .rows; bank = c .bank; desk = withEventsDue (c .desk) due };
               answer = a;
             })
             (replied (step m (event call)))

@@ -22,7 +22,7 @@ use Rattle.rules.specs.declared.Grant.{Grant}
 use Rattle.rules.specs.declared.Request.{Request}
 use Rattle.rules.specs.declared.Roll.{Roll}
 use Rattle.rules.specs.Holds.{Applet, Row, Bounds, Tables, Desk, Model}
-use Rattle.rules.specs.Held.{storedDesk, storedAnswer}
+use Rattle.rules.specs.Held.{storedAnswer}
 use Rattle.rules.specs.Applets.{hasNumber, nobody, present, applet, newcomer}
 use Rattle.rules.specs.Calls.{Call, admin, install, accepted, refusedWith}
 use Rattle.rules.specs.Desk.{marked}
@@ -34,8 +34,6 @@ use Rattle.runs.proofs.Looked.{each-found, absent-nobody}
 use Rattle.runs.proofs.Filled.{Installs, installs}
 use Rattle.runs.proofs.Installed.{install-room}
 use Rattle.menu_shown.specs.Chosen.{isEnabledOf, hasEnabledRow}
-use Rattle.menu_shown.proofs.MenuByApplets.{install-menu}
-use Rattle.events_shown.proofs.Quiet.{install-events}
 use Rattle.applets.specs.ByNumber.{at, grantOf, rollOf, selectableSet, registeredSet, madeTable}
 use Rattle.applets.specs.Rolls.{rollWith}
 use Rattle.applets.proofs.Joined.{at-more, set-more, roll-more}
@@ -45,9 +43,10 @@ use Rattle.card.specs.declared.Reply.{Reply}
 use Rattle.card.specs.View.{view, stored, Left}
 use Rattle.card.specs.Replies.{replied}
 use Rattle.card.proofs.Left.{left-form, left-sound, left-bounds}
-use Rattle.card.proofs.Marks.{due-desk, unmarked}
+use Rattle.card.proofs.Marks.{quiet-desk}
+use Rattle.card.proofs.Turned.{install-turns}
 use Rattle.card.proofs.Order.{count-is}
-use Rattle.card.proofs.Replied.{replies, tablesBy, after-by, answer-by, card-is, roll-form, selectable-form, registered-form, made-form, control-form, rows-form, bank-form, desk-form}
+use Rattle.card.proofs.Replied.{replies, tablesBy, after-by, answer-by, card-is, roll-form, selectable-form, registered-form, made-form, control-form, rows-form, bank-form}
 
 module _ (c : Card) (left : Left c) (n : ℕ) (q : Request) where
   abbrev t : Tables
@@ -134,13 +133,6 @@ module _ (c : Card) (left : Left c) (n : ℕ) (q : Request) where
           ap (λ (y : Applet). y .made) (absent-nobody t n (allowed .new)),
         ))
 
-    desk-next : c .desk ≡ storedDesk (marked t u (view c .desk))
-    unfolding adminTables
-    desk-next =
-        due-desk t u (view c .desk) (desk-form c left)
-        (sym (install-menu t (sound .numbers-apart) n q no-row)) (sym (install-events t n q))
-        (unmarked (c .desk .session) (c .desk .due .menu)) (unmarked (c .desk .session) (c .desk .due .events))
-
     joined
         : {g : Grant} {r : Roll} {s : ℕ}
         → g ≡ grantOf x
@@ -154,7 +146,7 @@ module _ (c : Card) (left : Left c) (n : ℕ) (q : Request) where
         (f ∙ ap (rollWith (c .roll) n) e ∙ roll-next) (h ∙ selectable-next)
         (registered-form c left ∙ sym registered-next) (made-form c left ∙ sym made-next)
         (unfold adminTables in control-form c left) (unfold adminTables in rows-form c left) (unfold adminTables in bank-form c left)
-        desk-next
+        (quiet-desk c left u (install-turns t (sound .numbers-apart) n q no-row))
 
   -- INSTALL, by what the parts of the code say
   module _ {r : ℕ} (refuses : RefusesInstall (c .roll) n q r) where

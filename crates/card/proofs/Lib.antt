@@ -1,8 +1,9 @@
 -- Laws of the card.
 pub mod Back
 pub mod Left
-pub mod Marks
 pub mod Replied
+pub mod Marks
+pub mod Turned
 pub mod Order
 pub mod Present
 pub mod Listeners

@@ -7,36 +7,35 @@ use mathlib.Core.Bool.{Bool, true, false, not, Bool·beq, _&&_, _||_}
 use mathlib.Core.List.{List}
 use Rattle.lists.specs.Tests.{if_then_else_, _==_}
 use Rattle.lists.specs.Lists.{some?, change}
-use borrow.Author.Tests.{eqb-true}
-use Rattle.lists.proofs.Decided.{turned, clashing}
+use Rattle.lists.proofs.Decided.{turned}
 use Rattle.lists.proofs.Truth.{and-left}
 use Rattle.lists.proofs.Tables.{table-alike}
 use Rattle.sets.specs.Sets.{has?, meets, switchedSet}
-use Rattle.sets.proofs.Bits.{set-alike, set-has, set-lt}
+use Rattle.sets.proofs.Bits.{set-alike}
 use Rattle.rules.specs.declared.Answer.{Answer}
-use Rattle.rules.specs.Holds.{Applet, Bounds, Tables, Model, withApplets, withSelectable}
+use Rattle.rules.specs.Holds.{Applet, Tables, Model, withApplets, withSelectable}
 use Rattle.rules.specs.Held.{viewRows, storedAnswer}
 use Rattle.rules.specs.Applets.{hasNumber, present, applet}
-use Rattle.rules.specs.Calls.{AdminCall, admin, lock, unlock, accepted, refusedWith}
+use Rattle.rules.specs.Calls.{AdminCall, Outcome, admin, lock, unlock, accepted, refusedWith}
 use Rattle.rules.specs.Desk.{menuChanges, eventsChange, marked}
 use Rattle.rules.specs.Refusals.{lines, firstHolding, absent, adminLines, refusal}
-use Rattle.rules.specs.Step.{step, tablesAfter, adminTables, deskAfter, answer}
-use Rattle.runs.proofs.Looked.{number-from, number-to}
+use Rattle.rules.specs.Step.{step, outcome, tablesAfter, adminTables, deskAfter, answer}
+use Rattle.runs.proofs.AlreadySo.{lock-a-locked-one, unlock-a-selectable-one}
 use Rattle.runs.proofs.Registered.{changed-sound, selectable-same}
 use Rattle.applets.specs.ByNumber.{at, selectableSet, registeredSet}
 use Rattle.applets.proofs.Numbers.{at-change, roll-kept, registered-kept, made-kept}
 use Rattle.menu_shown.specs.Chosen.{hasEnabledRow}
 use Rattle.menu_shown.proofs.MenuByApplets.{lock-menu}
 use Rattle.events_shown.specs.Turns.{anyCode, codeTurns}
-use Rattle.events_shown.proofs.Shown.{no-turn}
 use Rattle.card.specs.declared.Card.{Card}
 use Rattle.card.specs.declared.Reply.{Reply}
 use Rattle.card.specs.View.{view, stored, Left}
 use Rattle.card.specs.Replies.{replied}
-use Rattle.card.proofs.Left.{left-sound, left-bounds}
-use Rattle.card.proofs.Replied.{replies, tablesBy, after-by, answer-by, next-card, selectable-form, registered-form, control-form}
-use Rattle.card.proofs.Marks.{withDue, unmarked}
-use Rattle.card.proofs.Present.{present-by, gone-by, selectable-has, menu-same, events-none}
+use Rattle.card.proofs.Left.{left-form, left-sound, left-bounds}
+use Rattle.card.proofs.Replied.{replies, after-by, answer-by, next-card, registered-form, control-form}
+use Rattle.card.proofs.Marks.{menuAndEvents, withBothDue, both-desk}
+use Rattle.card.proofs.Turned.{admin-turns}
+use Rattle.card.proofs.Present.{present-by, gone-by, selectable-has, selectable-there}
 use Rattle.card.proofs.Listeners.{set-is, codes-by}
 
 -- lock and unlock as one call: the applet becomes selectable, or locked
@@ -83,30 +82,16 @@ module _ (c : Card) (left : Left c) (n : ℕ) (on : Bool) (there : present (view
       (λ e h. ap₂ meets (registered-same e ∙ sym (set-is c left e (omega arith))) (sym selectable-turned))
 
   menu-differs : (not (Bool·beq (has? (c .selectable) n) on) && hasEnabledRow n (viewRows (c .rows))) ≡ menuChanges t u
-  unfolding view applet
+  unfolding view
   menu-differs =
-      let sound = left-sound c left .tables in
-      let eight : t .bounds .applets ≡ 8 = ap (λ (b : Bounds). b .applets) (left-bounds c left) in
-      ap (λ (b : Bool). not (Bool·beq b on) && hasEnabledRow n (t .rows)) (selectable-has c left n (number-from t sound n there) (omega (arith, number-to t sound n there)))
-      ∙ sym (lock-menu t (sound .numbers-apart) n on there)
+      ap (λ (b : Bool). not (Bool·beq b on) && hasEnabledRow n (t .rows)) (selectable-there c left n there)
+      ∙ sym (lock-menu t (left-sound c left .tables .numbers-apart) n on there)
 
--- a set with a number that is in it, or without one that is not, is the same set
-already : (s n : ℕ) (on : Bool) → s < 256 → has? s n ≡ on → switchedSet s n on ≡ s
-already s n on small h = set-alike _ _ (λ k a b. go k (k == n) refl) ∙ sym (set-has s small)
-  where
-    go : (k : ℕ) (b : Bool) → (k == n) ≡ b → (if b then on else has? s k) ≡ has? s k
-    go k true e = sym h ∙ ap (has? s) (sym (eqb-true k n e))
-    go k false e = refl
-
-alike : (a b : Bool) → Bool·beq a b ≡ true → a ≡ b
+alike : (a b : Bool) → not (Bool·beq a b) ≡ false → a ≡ b
 alike true true e = refl
-alike true false e = clashing e refl
-alike false true e = clashing e refl
+alike true false e = cc
+alike false true e = cc
 alike false false e = refl
-
-small : (c : Card) → Left c → c .selectable < 256
-unfolding selectableSet
-small c left = rw (selectable-form c left) (set-lt _)
 
 -- LOCK AND UNLOCK, by what the parts of the code say
 module _ (c : Card) (left : Left c) (n : ℕ) (on : Bool) {there : Bool} (found : there ≡ has? (c .roll .present) n) {r : ℕ} (refused : r ≡ (if not there then 2 else 0)) where
@@ -134,64 +119,11 @@ module _ (c : Card) (left : Left c) (n : ℕ) (on : Bool) {there : Bool} (found 
   unfolding answer
   plain = refl
 
-  module _
-      {s : ℕ} {menu events x y : Bool}
-      (sets : s ≡ (if there then switchedSet (c .selectable) n on else c .selectable))
-      (mv : menu ≡ (there && (not (Bool·beq (has? (c .selectable) n) on) && hasEnabledRow n (viewRows (c .rows)))))
-      (ev : events ≡ anyCode (codeTurns (c .registered) (c .selectable) s))
-      (mx : x ≡ (c .desk .session && menu || c .desk .due .menu))
-      (my : y ≡ (c .desk .session && events || c .desk .due .events))
-    where
-      abbrev After : Tables → Type 0
-      After w =
-          _≡_ {A = Card}
-          (record { roll = c .roll; selectable = s; registered = c .registered; made = c .made; control = c .control; rows = c .rows; bank = c .bank; desk = withDue (c .desk) x y })
-          (stored (record { tables = w; desk = marked (m .tables) w (m .desk) }))
+  abbrev Says : Card → Answer → Type 0
+  Says k a = _≡_ {A = Reply} (record { card = k; answer = a }) (replied (step m (admin (locking on n))))
 
-      when-there : there ≡ true → After (tablesBy m (admin (locking on n)) r)
-      unfolding tablesAfter present
-      when-there h =
-          let z : r ≡ 0 = refused ∙ ap (λ (b : Bool). if not b then 2 else 0) h in
-          let is-here : present (m .tables) n ≡ true = sym (found ∙ present-by c left n) ∙ h in
-          let own : s ≡ switchedSet (c .selectable) n on = sets ∙ ap (λ (b : Bool). if b then switchedSet (c .selectable) n on else c .selectable) h in
-          let ls = m .tables .applets in
-          rw (z, tables-are on)
-          (next-card c left (withApplets (m .tables) (change (hasNumber n) (withSelectable on) ls))
-          (roll-kept ls n (withSelectable on) is-here (λ k. refl))
-          (made-kept ls n (withSelectable on) is-here (λ k. refl) (λ k. refl))
-          refl refl
-          (own ∙ selectable-turned c left n on is-here)
-          (registered-form c left ∙ table-alike 20 _ _ (λ e k. sym (registered-same c left n on is-here e)))
-          (control-form c left)
-          (mv ∙ ap (λ (b : Bool). b && (not (Bool·beq (has? (c .selectable) n) on) && hasEnabledRow n (viewRows (c .rows)))) h ∙ menu-differs c left n on is-here)
-          (ev ∙ ap (λ (k : ℕ). anyCode (codeTurns (c .registered) (c .selectable) k)) own ∙ codes-differ c left n on is-here)
-          mx my)
-
-      when-absent : there ≡ false → After (tablesBy m (admin (locking on n)) r)
-      when-absent h =
-          let z : r ≡ 2 = refused ∙ ap (λ (b : Bool). if not b then 2 else 0) h in
-          let own : s ≡ c .selectable = sets ∙ ap (λ (b : Bool). if b then switchedSet (c .selectable) n on else c .selectable) h in
-          rw z
-          (next-card c left (m .tables) refl refl refl refl
-          (own ∙ selectable-form c left) (registered-form c left) (control-form c left)
-          (mv ∙ ap (λ (b : Bool). b && (not (Bool·beq (has? (c .selectable) n) on) && hasEnabledRow n (viewRows (c .rows)))) h ∙ sym (menu-same (m .tables)))
-          (ev ∙ sym (no-turn (c .registered) (c .selectable) s (sym own)) ∙ sym (events-none (m .tables)))
-          mx my)
-
-      card-after : (b : Bool) → there ≡ b → After (tablesBy m (admin (locking on n)) r)
-      card-after true h = when-there h
-      card-after false h = when-absent h
-
-      turns-lock : {a : Answer} → a ≡ storedAnswer (refusedWith r)
-          → _≡_ {A = Reply}
-          (record {
-            card = record { roll = c .roll; selectable = s; registered = c .registered; made = c .made; control = c .control; rows = c .rows; bank = c .bank; desk = withDue (c .desk) x y };
-            answer = a;
-          })
-          (replied (step m (admin (locking on n))))
-      turns-lock e =
-          replies (step m (admin (locking on n))) (card-after there refl ∙ ap stored (sym (after-by m (admin (locking on n)) refusal-is still)))
-          (e ∙ ap storedAnswer (sym (answer-by m (admin (locking on n)) refusal-is plain)))
+  leaves : {k : Card} {a : Answer} → k ≡ stored (step m (admin (locking on n)) .after) → a ≡ storedAnswer (refusedWith r) → Says k a
+  leaves is e = replies (step m (admin (locking on n))) is (e ∙ ap storedAnswer (sym (answer-by m (admin (locking on n)) refusal-is plain)))
 
   -- the lock turns
   pub lock-turned
@@ -202,13 +134,33 @@ module _ (c : Card) (left : Left c) (n : ℕ) (on : Bool) {there : Bool} (found 
       → events ≡ anyCode (codeTurns (c .registered) (c .selectable) s)
       → x ≡ (c .desk .session && menu || c .desk .due .menu)
       → y ≡ (c .desk .session && events || c .desk .due .events)
-      → k ≡ record { roll = c .roll; selectable = s; registered = c .registered; made = c .made; control = c .control; rows = c .rows; bank = c .bank; desk = withDue (c .desk) x y }
+      → k ≡ record { roll = c .roll; selectable = s; registered = c .registered; made = c .made; control = c .control; rows = c .rows; bank = c .bank; desk = withBothDue (c .desk) x y }
       → a ≡ storedAnswer (refusedWith r)
-      → _≡_ {A = Reply} (record { card = k; answer = a }) (replied (step m (admin (locking on n))))
-  lock-turned {a = a} turns sets mv ev mx my is e =
-      let here = and-left there (not (Bool·beq (has? (c .selectable) n) on)) turns in
-      ap (λ (k : Card). record { card = k; answer = a }) is
-      ∙ turns-lock (sets ∙ sym (ap (λ (b : Bool). if b then switchedSet (c .selectable) n on else c .selectable) here)) mv ev mx my e
+      → Says k a
+  unfolding tablesAfter present
+  lock-turned {k} turns sets mv ev mx my is e =
+      let h = and-left there (not (Bool·beq (has? (c .selectable) n) on)) turns in
+      let z : r ≡ 0 = refused ∙ rw h refl in
+      let is-here : present (m .tables) n ≡ true = sym (found ∙ present-by c left n) ∙ h in
+      let l = m .tables .applets in
+      let u = withApplets (m .tables) (change (hasNumber n) (withSelectable on) l) in
+      let left-so : k ≡ stored (record { tables = u; desk = marked (m .tables) u (m .desk) }) =
+      is
+      ∙ next-card c left u
+      (roll-kept l n (withSelectable on) is-here (λ k. refl))
+      (made-kept l n (withSelectable on) is-here (λ k. refl) (λ k. refl))
+      refl refl
+      (sets ∙ selectable-turned c left n on is-here)
+      (registered-form c left ∙ table-alike 20 _ _ (λ e k. sym (registered-same c left n on is-here e)))
+      (control-form c left)
+      (both-desk c left u
+      (rw (tables-are on) at (admin-turns (m .tables) (locking on n))
+      ∙ sym
+      (ap₂ menuAndEvents
+      (mv ∙ ap (λ (b : Bool). b && (not (Bool·beq (has? (c .selectable) n) on) && hasEnabledRow n (viewRows (c .rows)))) h ∙ menu-differs c left n on is-here)
+      (ev ∙ ap (λ (k : ℕ). anyCode (codeTurns (c .registered) (c .selectable) k)) sets ∙ codes-differ c left n on is-here)))
+      mx my) in
+      leaves (rw (after-by m (admin (locking on n)) refusal-is still, z, tables-are on) left-so) e
 
   -- it does not: the applet is not there, or so already
   pub lock-still
@@ -216,20 +168,16 @@ module _ (c : Card) (left : Left c) (n : ℕ) (on : Bool) {there : Bool} (found 
       → (there && not (Bool·beq (has? (c .selectable) n) on)) ≡ false
       → k ≡ c
       → a ≡ storedAnswer (refusedWith r)
-      → _≡_ {A = Reply} (record { card = k; answer = a }) (replied (step m (admin (locking on n))))
-  lock-still {a = a} still is e =
-      ap (λ (k : Card). record { card = k; answer = a }) is
-      ∙ turns-lock (kept there (Bool·beq (has? (c .selectable) n) on) refl still)
-      (none there (not (Bool·beq (has? (c .selectable) n) on)) (hasEnabledRow n (viewRows (c .rows))) still)
-      (no-turn (c .registered) (c .selectable) (c .selectable) refl)
-      (unmarked (c .desk .session) (c .desk .due .menu)) (unmarked (c .desk .session) (c .desk .due .events)) e
+      → Says k a
+  unfolding step outcome
+  lock-still same is e = leaves (is ∙ left-form c left ∙ ap stored (sym (go there refl same))) e
     where
-      none : (a b h : Bool) → (a && b) ≡ false → false ≡ (a && (b && h))
-      none true true h z = clashing refl z
-      none true false h z = refl
-      none false b h z = refl
+      so : (b : Bool) → absent (m .tables) n ≡ false → applet (m .tables) n .selectable ≡ b → step m (admin (locking b n)) .after ≡ m
+      so true known is = ap (λ (o : Outcome). o .after) (unlock-a-selectable-one m n known is)
+      so false known is = ap (λ (o : Outcome). o .after) (lock-a-locked-one m n known is)
 
-      kept : (t b : Bool) → Bool·beq (has? (c .selectable) n) on ≡ b → (t && not b) ≡ false → c .selectable ≡ (if t then switchedSet (c .selectable) n on else c .selectable)
-      kept true true q z = sym (already (c .selectable) n on (small c left) (alike (has? (c .selectable) n) on q))
-      kept true false q z = clashing refl z
-      kept false b q z = refl
+      go : (b : Bool) → there ≡ b → (b && not (Bool·beq (has? (c .selectable) n) on)) ≡ false → step m (admin (locking on n)) .after ≡ m
+      go true h q =
+          so on (gone-by c left n found ∙ ap not h)
+          (sym (selectable-there c left n (sym (found ∙ present-by c left n) ∙ h)) ∙ alike (has? (c .selectable) n) on q)
+      go false h q = ap (λ (k : ℕ). outcome k m (admin (locking on n)) .after) (sym refusal-is ∙ refused ∙ ap (λ (b : Bool). if not b then 2 else 0) h)

@@ -30,8 +30,6 @@ use Rattle.applets.proofs.Made.{made-more, pair-next}
 use Rattle.menu.proofs.Tidy.{inserted-room}
 use Rattle.menu_entries.specs.declared.Added.{Added}
 use Rattle.menu_entries.specs.ItsRow.{enteredBy}
-use Rattle.menu_shown.proofs.MenuByApplets.{entry-menu}
-use Rattle.events_shown.proofs.Quiet.{entry-events}
 use Rattle.refusals.specs.Lines.{unfitText}
 use Rattle.refusals.proofs.Calls.{new-refusal}
 use Rattle.card.specs.declared.Card.{Card}
@@ -40,8 +38,10 @@ use Rattle.card.specs.View.{view, stored, Left}
 use Rattle.card.specs.Replies.{replied}
 use Rattle.card.proofs.Left.{left-sound, left-bounds}
 use Rattle.card.proofs.Replied.{replies, made-form}
-use Rattle.card.proofs.Present.{found-by, grant-is, made-is}
-use Rattle.card.proofs.EntryRows.{withEntries, entry-after, entry-refused, entry-card, selectable-there}
+use Rattle.card.proofs.Present.{found-by, grant-is, made-is, selectable-there}
+use Rattle.card.proofs.Marks.{onlyMenu}
+use Rattle.card.proofs.Turned.{entry-turns}
+use Rattle.card.proofs.EntryRows.{withEntries, entry-after, entry-refused, entry-card}
 
 -- the rows with the new one, and its identifier
 entered-is
@@ -136,10 +136,9 @@ module _ (c : Card) (left : Left c) (n : ℕ) (help : Bool) (text : List ℕ) {t
           (selectable-kept l n withOneMore here (λ x. refl) (λ x. refl))
           (λ e. registered-kept l n withOneMore here (λ x. refl) e (λ x. refl))
           refl refl
-          (entry-events t n (withEntry x help text (t .rows)))
           (mm ∙ ap₂ (λ (h : List ℕ) (m : ℕ). madeWith h n m) (made-form c left) one ∙ made-more l n here)
           (ap (λ (h : Added). h .rows) both)
-          (tu ∙ selectable-there c left n here ∙ sym (entry-menu t (sound .numbers-apart) n here help text))
+          (entry-turns t (sound .numbers-apart) n here help text ∙ ap onlyMenu (sym (tu ∙ selectable-there c left n here)))
           y
           ∙ ap stored (sym (entry-after c left (newEntry n help text) is-new z)))
           (gives-number (λ h. ii ∙ ap (λ (h : Added). h .identifier) both) says)

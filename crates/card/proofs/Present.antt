@@ -1,25 +1,20 @@
--- Who is there and who is selectable, by the sets of a card that calls have left; and that nothing shown changes where nothing does.
+-- Who is there and who is selectable, by the sets of a card that calls have left.
 -- Assumes nothing.
 use Prim.Native.Nat.{ℕ, _≤_}
 use native.Mathlib.Omega.{arith}
 use mathlib.Core.Path.{_≡_, refl, sym, ap, _∙_}
 use mathlib.Core.Bool.{Bool, true, false, not}
 use mathlib.Core.List.{List}
-use Rattle.lists.proofs.Alike.{unlike-not}
 use Rattle.lists.proofs.Truth.{not-not}
 use Rattle.sets.specs.Sets.{has?}
 use Rattle.sets.proofs.Bits.{has-set}
 use Rattle.rules.specs.declared.Roll.{Roll}
-use Rattle.rules.specs.Holds.{Applet, Bounds, Tables}
+use Rattle.rules.specs.Holds.{Applet, Bounds}
 use Rattle.rules.specs.Applets.{nobody, present, applet}
-use Rattle.rules.specs.Commands.{shownMenu}
-use Rattle.rules.specs.Desk.{sameRow?, menuChanges, eventsChange}
 use Rattle.rules.specs.Refusals.{absent}
-use Rattle.rules.proofs.DueMarks.{row-self}
 use Rattle.runs.proofs.Looked.{number-from, number-to, absent-is}
 use Rattle.applets.specs.ByNumber.{at, byNumber, grantOf, rollOf, selectableSet, madeTable}
 use Rattle.applets.proofs.Numbers.{by-any, present-in}
-use Rattle.events_shown.proofs.Shown.{events-same}
 use Rattle.card.specs.declared.Card.{Card}
 use Rattle.card.specs.View.{view, Left}
 use Rattle.card.proofs.Left.{left-sound, left-bounds}
@@ -68,9 +63,10 @@ pub selectable-has : (c : Card) (left : Left c) (k : ℕ) → 1 ≤ k → k ≤ 
 unfolding selectableSet
 selectable-has c left k a b = ap (λ (s : ℕ). has? s k) (selectable-form c left) ∙ has-set (λ k. at (view c .tables .applets) k .selectable) k a b
 
--- nothing changes of what is shown where nothing changes
-pub menu-same : (t : Tables) → menuChanges t t ≡ false
-menu-same t = unfold menuChanges in unlike-not sameRow? row-self (shownMenu t)
-
-pub events-none : (t : Tables) → eventsChange t t ≡ false
-events-none t = events-same t t (λ e h k. refl)
+-- whether an applet that is there is selectable
+pub selectable-there : (c : Card) (left : Left c) (n : ℕ) → present (view c .tables) n ≡ true → has? (c .selectable) n ≡ applet (view c .tables) n .selectable
+unfolding applet
+selectable-there c left n there =
+    let sound = left-sound c left .tables in
+    let eight : view c .tables .bounds .applets ≡ 8 = ap (λ (b : Bounds). b .applets) (left-bounds c left) in
+    selectable-has c left n (number-from (view c .tables) sound n there) (omega (arith, number-to (view c .tables) sound n there, eight))

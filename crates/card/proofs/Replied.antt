@@ -3,7 +3,6 @@
 use Prim.Native.Nat.{ℕ, zero, suc}
 use native.Mathlib.Omega.{arith}
 use mathlib.Core.Path.{_≡_, refl, sym, ap, _∙_}
-use mathlib.Core.Bool.{Bool, _&&_, _||_}
 use mathlib.Core.List.{List}
 use borrow.Author.Tests.{ne-eqb}
 use Rattle.lists.specs.Tests.{if_then_else_, _==_}
@@ -16,7 +15,7 @@ use Rattle.rules.specs.Holds.{Tables, Desk, Model}
 use Rattle.rules.specs.Held.{storedRows, storedDesk, storedAnswer}
 use Rattle.rules.specs.Calls.{Call, Outcome, accepted, refusedWith}
 use Rattle.rules.specs.Refusals.{refusal}
-use Rattle.rules.specs.Desk.{marked, menuChanges, eventsChange}
+use Rattle.rules.specs.Desk.{marked}
 use Rattle.rules.specs.Step.{changed, tablesAfter, deskAfter, answer, outcome, step}
 use Rattle.rules.proofs.DueMarks.{marked-same}
 use Rattle.card.specs.declared.Card.{Card}
@@ -26,7 +25,6 @@ use Rattle.applets.specs.ByNumber.{rollOf, selectableSet, registeredSet, madeTa
 use Rattle.card.specs.View.{view, stored, Left}
 use Rattle.card.specs.Replies.{replied}
 use Rattle.card.proofs.Left.{left-form}
-use Rattle.card.proofs.Marks.{withDue, due-desk}
 
 -- the reply by its parts
 pub replies : (o : Outcome) {k : Card} {a : Answer} → k ≡ stored (o .after) → a ≡ storedAnswer (o .answer) → _≡_ {A = Reply} (record { card = k; answer = a }) (replied o)
@@ -125,19 +123,15 @@ module _ (c : Card) (left : Left c) (u : Tables) where
       → madeTable (u .applets) ≡ madeTable (t .applets)
       → u .rows ≡ t .rows
       → u .timers ≡ t .timers
-      → {s : ℕ} {g : List ℕ} {o : ℕ} {x y menu events : Bool}
+      → {s : ℕ} {g : List ℕ} {o : ℕ} {d : held-desk.Desk}
       → s ≡ selectableSet (u .applets)
       → g ≡ table 20 (registeredSet (u .applets))
       → o ≡ u .control
-      → menu ≡ menuChanges t u
-      → events ≡ eventsChange t u
-      → x ≡ (c .desk .session && menu || c .desk .due .menu)
-      → y ≡ (c .desk .session && events || c .desk .due .events)
+      → d ≡ storedDesk (marked t u (view c .desk))
       → _≡_ {A = Card}
-      (record { roll = c .roll; selectable = s; registered = g; made = c .made; control = o; rows = c .rows; bank = c .bank; desk = withDue (c .desk) x y })
+      (record { roll = c .roll; selectable = s; registered = g; made = c .made; control = o; rows = c .rows; bank = c .bank; desk = d })
       (stored (record { tables = u; desk = marked t u (view c .desk) }))
-  next-card roll made rows timers sel reg own p q x y =
+  next-card roll made rows timers sel reg own desk =
       card-is (record { tables = u; desk = marked t u (view c .desk) })
       (roll-form c left ∙ sym roll) sel reg (made-form c left ∙ sym made) own
-      (rows-form c left ∙ ap storedRows (sym rows)) (bank-form c left ∙ sym timers)
-      (due-desk t u (view c .desk) (desk-form c left) p q x y)
+      (rows-form c left ∙ ap storedRows (sym rows)) (bank-form c left ∙ sym timers) desk

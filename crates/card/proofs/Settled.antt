@@ -25,8 +25,7 @@ use Rattle.rules.specs.Calls.{settled, calling}
 use Rattle.rules.specs.Desk.{marked}
 use Rattle.rules.specs.Refusals.{line, firstHolding, lines, refusal}
 use Rattle.rules.specs.Step.{step, tablesAfter, deskAfter, answer}
-use Rattle.menu_shown.proofs.MenuByApplets.{settled-menu}
-use Rattle.events_shown.proofs.Quiet.{settled-events}
+use Rattle.rules.proofs.DueMarks.{changes-none}
 use Rattle.applets.specs.declared.Callees.{Callees}
 use Rattle.applets.specs.ByNumber.{at, registeredSet}
 use Rattle.applets.specs.Rolls.{calleesOf}
@@ -38,9 +37,9 @@ use Rattle.card.specs.declared.Card.{Card}
 use Rattle.card.specs.declared.Reply.{Reply}
 use Rattle.card.specs.View.{view, stored, Left}
 use Rattle.card.specs.Replies.{replied}
-use Rattle.card.proofs.Marks.{unmarked}
+use Rattle.card.proofs.Marks.{quiet-desk}
 use Rattle.card.proofs.Replied.{replies, tablesBy, after-by, next-card, selectable-form, registered-form, control-form}
-use Rattle.card.proofs.Present.{menu-same, events-none}
+use Rattle.card.proofs.Turned.{settled-turns}
 use Rattle.card.proofs.Calling.{answers}
 
 module _ (c : Card) (left : Left c) where
@@ -90,14 +89,12 @@ module _ (c : Card) (left : Left c) where
   card-after zero =
       next-card c left (withApplets (m .tables) (map usedUp l)) (roll-used l) (made-used l) refl refl
       (selectable-form c left ∙ sym (selectable-used l)) registered-less (control-form c left)
-      (sym (settled-menu (m .tables))) (sym (settled-events (m .tables)))
-      (unmarked (c .desk .session) (c .desk .due .menu)) (unmarked (c .desk .session) (c .desk .due .events))
+      (quiet-desk c left _ (settled-turns (m .tables)))
   card-after (suc r) =
       rw (ne-eqb (suc r) 0 (λ z. omega arith))
       (next-card c left (m .tables) refl refl refl refl
       (selectable-form c left) registered-stays (control-form c left)
-      (sym (menu-same (m .tables))) (sym (events-none (m .tables)))
-      (unmarked (c .desk .session) (c .desk .due .menu)) (unmarked (c .desk .session) (c .desk .due .events)))
+      (quiet-desk c left (m .tables) (changes-none (m .tables))))
 
   refusal-is : firstHolding (line 16 (c .desk .outstanding) ∷ []) ≡ refusal m settled
   unfolding refusal lines view viewDesk

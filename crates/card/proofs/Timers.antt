@@ -14,15 +14,12 @@ use Rattle.rules.specs.declared.Grant.{Grant}
 use Rattle.rules.specs.Holds.{Model, withTimers}
 use Rattle.rules.specs.Applets.{applet, nobody}
 use Rattle.rules.specs.Timers.{isOwner, withAllocated, withReleased}
-use Rattle.rules.specs.Commands.{selectable}
 use Rattle.rules.specs.Calls.{timer, allocate, release}
 use Rattle.rules.specs.Beside.{BankOutcome, bankAllocate, allocateBy, bankRelease, releaseBy}
 use Rattle.rules.specs.Desk.{marked}
 use Rattle.rules.specs.Refusals.{refusal, lines, firstHolding, timerLines, absent}
 use Rattle.rules.specs.Step.{step, outcome, changed, tablesAfter, deskAfter, timerTables, answer, timerAnswer}
 use Rattle.timers.specs.Promises.{Allocates, Releases}
-use Rattle.menu_shown.proofs.MenuByApplets.{kept-menu}
-use Rattle.events_shown.proofs.Quiet.{timers-events}
 use Rattle.applets.specs.ByNumber.{byNumber, grantOf}
 use Rattle.card.specs.declared.Card.{Card}
 use Rattle.card.specs.declared.Reply.{Reply}
@@ -30,8 +27,9 @@ use Rattle.card.specs.View.{view, stored, Left}
 use Rattle.card.specs.Replies.{replied}
 use Rattle.rules.specs.Held.{storedAnswer}
 use Rattle.card.proofs.Left.{left-form}
-use Rattle.card.proofs.Marks.{due-desk, unmarked}
-use Rattle.card.proofs.Replied.{replies, card-is, roll-form, selectable-form, registered-form, made-form, control-form, rows-form, desk-form}
+use Rattle.card.proofs.Marks.{quiet-desk}
+use Rattle.card.proofs.Replied.{replies, card-is, roll-form, selectable-form, registered-form, made-form, control-form, rows-form}
+use Rattle.card.proofs.Turned.{timers-turn}
 use Rattle.card.proofs.Present.{gone-by, grant-is, low-is, high-is}
 
 -- the card with another bank
@@ -48,14 +46,11 @@ module _ (c : Card) (l : Left c) where
 
   -- timers change nothing that is shown
   with-timers : (k : List ℕ) → withBank c (record { owner = k }) ≡ stored (record { tables = withTimers (m .tables) k; desk = marked (m .tables) (withTimers (m .tables) k) (m .desk) })
-  unfolding selectable
   with-timers k =
-      let t = m .tables in
-      let u = withTimers t k in
-      card-is (record { tables = u; desk = marked t u (m .desk) })
+      let u = withTimers (m .tables) k in
+      card-is (record { tables = u; desk = marked (m .tables) u (m .desk) })
       (roll-form c l) (selectable-form c l) (registered-form c l) (made-form c l) (control-form c l) (rows-form c l) refl
-      (due-desk t u (m .desk) (desk-form c l) (sym (kept-menu t u refl (λ o. refl))) (sym (timers-events t k))
-      (unmarked (c .desk .session) (c .desk .due .menu)) (unmarked (c .desk .session) (c .desk .due .events)))
+      (quiet-desk c l u (timers-turn (m .tables) k))
 
   module _ (n : ℕ) {there : Bool} (found : there ≡ has? (c .roll .present) n) where
     gone : absent (m .tables) n ≡ not there
