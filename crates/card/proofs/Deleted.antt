@@ -3,7 +3,7 @@
 use Prim.Native.Nat.{ℕ, _-_, _≤_, _<_}
 use native.Mathlib.Omega.{arith}
 use mathlib.Core.Path.{_≡_, refl, sym, ap, ap₂, _∙_}
-use mathlib.Core.Bool.{Bool, true, false, not, Bool·beq, _&&_, _||_}
+use mathlib.Core.Bool.{Bool, true, false, not, Bool·beq, _&&_}
 use mathlib.Core.List.{List, map}
 use lib.ListN.{getD}
 use Rattle.lists.specs.Tests.{if_then_else_}
@@ -16,16 +16,15 @@ use Rattle.rules.specs.declared.Roll.{Roll}
 use Rattle.rules.specs.declared.Rows.{Rows}
 use Rattle.rules.specs.declared.Bank.{Bank}
 use Rattle.rules.specs.declared.Answer.{Answer}
-use Rattle.rules.specs.Holds.{Applet, Bounds, Tables, Desk, Model, document}
+use Rattle.rules.specs.Holds.{Applet, Bounds, Tables, Model, document}
 use Rattle.rules.specs.Held.{viewRows, storedRows, storedAnswer}
-use Rattle.rules.specs.Applets.{present, applet, forget}
+use Rattle.rules.specs.Applets.{present, forget}
 use Rattle.rules.specs.Rows.{withoutRows}
 use Rattle.rules.specs.Timers.{withoutTimers}
 use Rattle.rules.specs.Calls.{admin, delete, accepted, refusedWith}
 use Rattle.rules.specs.Desk.{menuChanges, eventsChange, marked}
 use Rattle.rules.specs.Refusals.{lines, firstHolding, adminLines, refusal}
 use Rattle.rules.specs.Step.{step, tablesAfter, adminTables, deskAfter, answer}
-use Rattle.rules.proofs.DueMarks.{marked-same}
 use Rattle.runs.specs.Sound.{SoundApplet, SoundTables}
 use Rattle.runs.proofs.Altered.{admin-sound}
 use Rattle.runs.proofs.Looked.{not-absent}
@@ -41,11 +40,11 @@ use Rattle.card.specs.declared.Card.{Card}
 use Rattle.card.specs.declared.Reply.{Reply}
 use Rattle.card.specs.View.{view, stored, Left}
 use Rattle.card.specs.Replies.{replied}
-use Rattle.card.proofs.Left.{left-form, left-sound, left-bounds}
-use Rattle.card.proofs.Marks.{menuAndEvents, withBothDue, both-desk}
+use Rattle.card.proofs.Left.{left-sound, left-bounds}
+use Rattle.card.proofs.Marks.{menuAndEvents, withBothDue, MenuMark, EventsMark, both-desk}
 use Rattle.card.proofs.Turned.{admin-turns}
-use Rattle.card.proofs.Replied.{replies, tablesBy, after-by, answer-by, card-is, roll-form, selectable-form, registered-form, made-form}
-use Rattle.card.proofs.Present.{present-by, gone-by, low-is, high-is, selectable-has}
+use Rattle.card.proofs.Replied.{after-by, plain-reply, refused-stays, card-is, roll-form, selectable-form, registered-form, made-form}
+use Rattle.card.proofs.Present.{present-by, gone-by, low-is, selectable-there}
 use Rattle.card.proofs.Listeners.{set-is, codes-by}
 
 module _ (c : Card) (left : Left c) (n : ℕ) (there : has? (c .roll .present) n ≡ true) where
@@ -103,9 +102,9 @@ module _ (c : Card) (left : Left c) (n : ℕ) (there : has? (c .roll .present) n
 
   -- the marks
   menu-differs : (true && (not (Bool·beq (has? (c .selectable) n) false) && hasEnabledRow n (viewRows (c .rows)))) ≡ menuChanges t u
-  unfolding view applet
+  unfolding view
   menu-differs =
-      ap (λ (b : Bool). b && hasEnabledRow n (t .rows)) (same (has? (c .selectable) n) ∙ selectable-has c left n (low-is c left n there) (high-is c left n there))
+      ap (λ (b : Bool). b && hasEnabledRow n (t .rows)) (same (has? (c .selectable) n) ∙ selectable-there c left n here)
       ∙ sym (delete-menu t (sound .numbers-apart) n)
     where
       same : (s : Bool) → not (Bool·beq s false) ≡ s
@@ -129,8 +128,8 @@ module _ (c : Card) (left : Left c) (n : ℕ) (there : has? (c .roll .present) n
       → s ≡ is
       → menu ≡ (true && (not (Bool·beq (has? (c .selectable) n) false) && hasEnabledRow n (viewRows (c .rows))))
       → events ≡ anyCode (codeTurns (c .registered) (c .selectable) s)
-      → x ≡ (c .desk .session && menu || c .desk .due .menu)
-      → y ≡ (c .desk .session && events || c .desk .due .events)
+      → MenuMark (c .desk) menu x
+      → EventsMark (c .desk) events y
       → roll ≡ rollWithout (c .roll) n
       → g ≡ map (λ (s : ℕ). setWithout s (single n)) (c .registered)
       → f ≡ madeWith (c .made) n 0
@@ -172,22 +171,15 @@ module _ (c : Card) (left : Left c) (n : ℕ) {there : Bool} (found : there ≡ 
   abbrev Says : Card → Answer → Type 0
   Says k a = _≡_ {A = Reply} (record { card = k; answer = a }) (replied (step (view c) (admin (delete n))))
 
-  leaves : {k : Card} {a : Answer} (u : Tables) → u ≡ tablesBy (view c) (admin (delete n)) r
-      → k ≡ stored (record { tables = u; desk = marked (view c .tables) u (view c .desk) }) → a ≡ storedAnswer (refusedWith r) → Says k a
-  leaves u h q e =
-      replies (step (view c) (admin (delete n)))
-      (q ∙ ap (λ (w : Tables). stored (record { tables = w; desk = marked (view c .tables) w (view c .desk) })) h ∙ ap stored (sym (after-by (view c) (admin (delete n)) refusal-is still)))
-      (e ∙ ap storedAnswer (sym (answer-by (view c) (admin (delete n)) refusal-is plain)))
-
   pub deletes : {k : Card} {a : Answer} → there ≡ true
       → k ≡ stored (record { tables = adminTables (view c .tables) (delete n); desk = marked (view c .tables) (adminTables (view c .tables) (delete n)) (view c .desk) })
       → a ≡ storedAnswer (refusedWith r) → Says k a
   unfolding tablesAfter
   deletes h q e =
       let z : r ≡ 0 = refused ∙ rw h refl in
-      leaves (adminTables (view c .tables) (delete n)) (rw z refl) q e
+      plain-reply (view c) (admin (delete n)) refusal-is plain (q ∙ ap stored (sym (after-by (view c) (admin (delete n)) refusal-is still (rw z refl)))) e
 
   pub deletes-none : {k : Card} {a : Answer} → there ≡ false → k ≡ c → a ≡ storedAnswer (refusedWith r) → Says k a
   deletes-none h q e =
       let z : r ≡ 2 = refused ∙ rw h refl in
-      leaves (view c .tables) (rw z refl) (q ∙ left-form c left ∙ ap (λ (d : Desk). stored (record { tables = view c .tables; desk = d })) (sym (marked-same (view c .tables) (view c .desk)))) e
+      plain-reply (view c) (admin (delete n)) refusal-is plain (q ∙ refused-stays c left (admin (delete n)) refusal-is (λ y. omega (arith, y, z))) e

@@ -1,13 +1,13 @@
 -- What a call about entries leaves of the card, and change, enable and disable entry by what the parts of the code say.
 -- Assumes nothing.
-use Prim.Native.Nat.{ℕ, zero, suc}
+use Prim.Native.Nat.{ℕ}
 use native.Mathlib.Omega.{arith}
-use mathlib.Core.Path.{_≡_, refl, sym, ap, ap₂, _∙_}
-use mathlib.Core.Bool.{Bool, true, false, not, _&&_, _||_}
+use mathlib.Core.Path.{_≡_, refl, sym, ap, _∙_}
+use mathlib.Core.Bool.{Bool, true, false, not, _&&_}
 use mathlib.Core.List.{List, [], _∷_}
 use lib.ListN.{take}
 use lib.Seq.{take-all}
-use borrow.Author.Tests.{eqb-true}
+use borrow.Author.Tests.{eqb-true, ne-eqb}
 use Rattle.lists.specs.Tests.{_==_}
 use Rattle.lists.specs.Lists.{some?, first}
 use Rattle.lists.proofs.Decided.{both, clashing}
@@ -26,7 +26,8 @@ use Rattle.rules.specs.Rows.{itsRow, withText, withEnabled}
 use Rattle.rules.specs.Desk.{menuChanges, changes, marked}
 use Rattle.rules.specs.Calls.{EntryCall, entry, changeEntry, accepted, refusedWith}
 use Rattle.rules.specs.Refusals.{line, firstHolding, refusal}
-use Rattle.rules.specs.Step.{step, outcome, changed, tablesAfter, deskAfter, entryTables, answer, entryAnswer}
+use Rattle.rules.specs.Step.{step, tablesAfter, deskAfter, entryTables, answer, entryAnswer}
+use Rattle.rules.proofs.DueMarks.{changes-none}
 use Rattle.runs.specs.Sound.{SoundRow, SoundTables}
 use Rattle.runs.proofs.Looked.{sound-applet}
 use Rattle.runs.proofs.Filled.{ChangesEntry, changes-entry}
@@ -41,25 +42,11 @@ use Rattle.card.specs.declared.Card.{Card}
 use Rattle.card.specs.declared.Reply.{Reply}
 use Rattle.card.specs.View.{view, stored, Left}
 use Rattle.card.specs.Replies.{replied}
-use Rattle.card.proofs.Left.{left-form, left-sound, left-bounds}
-use Rattle.card.proofs.Marks.{onlyMenu, withMenuDue, unmarked, menu-desk}
+use Rattle.card.proofs.Left.{left-sound, left-bounds}
+use Rattle.card.proofs.Marks.{onlyMenu, withMenuDue, MenuMark, menu-desk}
 use Rattle.card.proofs.Turned.{rows-turn}
-use Rattle.card.proofs.Replied.{replies, answer-by, card-is, roll-form, selectable-form, registered-form, made-form, control-form, rows-form, bank-form}
+use Rattle.card.proofs.Replied.{tablesBy, after-by, plain-reply, card-is, roll-form, selectable-form, registered-form, made-form, control-form, bank-form}
 use Rattle.card.proofs.Present.{present-by, found-by, grant-is, selectable-there}
-
--- what an accepted call about entries leaves, and that a refused one leaves the card
-module _ (c : Card) (left : Left c) (y : EntryCall) {r : ℕ} (e : r ≡ refusal (view c) (entry y)) where
-  pub entry-after : r ≡ 0 → step (view c) (entry y) .after ≡ record { tables = entryTables (view c .tables) y; desk = marked (view c .tables) (entryTables (view c .tables) y) (view c .desk) }
-  unfolding step outcome changed tablesAfter deskAfter
-  entry-after z = ap (λ (k : ℕ). outcome k (view c) (entry y) .after) (sym e ∙ z)
-
-  pub entry-refused : (r ≡ 0 → ⊥) → c ≡ stored (step (view c) (entry y) .after)
-  unfolding step outcome
-  entry-refused z = left-form c left ∙ go r z ∙ ap (λ (k : ℕ). stored (outcome k (view c) (entry y) .after)) e
-    where
-      go : (k : ℕ) → (k ≡ 0 → ⊥) → stored (view c) ≡ stored (outcome k (view c) (entry y) .after)
-      go zero z = absurd (z refl)
-      go (suc k) z = refl
 
 -- THE CARD AFTER A CALL ABOUT ENTRIES: the rows, how many entries are made, and whether the menu is due
 abbrev pub withEntries : Card → (made : List ℕ) → Rows → (due : Bool) → Card
@@ -80,7 +67,7 @@ module _ (c : Card) (left : Left c) (u : Tables) where
       → made ≡ madeTable (u .applets)
       → next ≡ storedRows (u .rows)
       → changes t u ≡ onlyMenu turns
-      → x ≡ (c .desk .session && turns || c .desk .due .menu)
+      → MenuMark (c .desk) turns x
       → withEntries c made next x ≡ stored (record { tables = u; desk = marked t u (view c .desk) })
   entry-card roll sel reg own timers many rows turns x =
       card-is (record { tables = u; desk = marked t u (view c .desk) })
@@ -97,16 +84,20 @@ owner-there t s n i its =
 
 -- A CALL THAT CHANGES ROWS ONLY, by what became of the rows
 module _ (c : Card) (left : Left c) (n : ℕ) (y : EntryCall) {r : ℕ} (e : r ≡ refusal (view c) (entry y)) (plain : entryAnswer (view c .tables) y ≡ accepted) {a : Answer} (says : a ≡ storedAnswer (refusedWith r))
-    {shown x : Bool} (sh : shown ≡ has? (c .selectable) n) (w : Touched) (due : x ≡ (c .desk .session && (shown && w .turns) || c .desk .due .menu))
+    {shown x : Bool} (sh : shown ≡ has? (c .selectable) n) (w : Touched) (due : MenuMark (c .desk) (shown && w .turns) x)
   where
-    leaves : {k : Card} → k ≡ stored (step (view c) (entry y) .after) → _≡_ {A = Reply} (record { card = k; answer = a }) (replied (step (view c) (entry y)))
-    unfolding answer
-    leaves is = replies (step (view c) (entry y)) is (says ∙ ap storedAnswer (sym (answer-by (view c) (entry y) e plain)))
+    rows-left : (rows : List Row) → tablesBy (view c) (entry y) r ≡ withRows (view c .tables) rows → changes (view c .tables) (withRows (view c .tables) rows) ≡ onlyMenu (shown && w .turns) → w .rows ≡ storedRows rows
+        → _≡_ {A = Reply} (record { card = withEntries c (c .made) (w .rows) x; answer = a }) (replied (step (view c) (entry y)))
+    unfolding answer deskAfter
+    rows-left rows ts turns nx =
+        plain-reply (view c) (entry y) e plain
+        (entry-card c left (withRows (view c .tables) rows) refl refl (λ e. refl) refl refl (made-form c left) nx turns due
+        ∙ ap stored (sym (after-by (view c) (entry y) e refl ts)))
+        says
 
     rows-kept : (r ≡ 0 → ⊥) → w .rows ≡ storedRows (view c .tables .rows) → w .turns ≡ false → _≡_ {A = Reply} (record { card = withEntries c (c .made) (w .rows) x; answer = a }) (replied (step (view c) (entry y)))
     rows-kept z nx still =
-        let off : c .desk .due .menu ≡ x = unmarked (c .desk .session) (c .desk .due .menu) ∙ sym (due ∙ ap (λ (b : Bool). c .desk .session && b || c .desk .due .menu) (ap (λ (b : Bool). shown && b) still ∙ and-false shown)) in
-        leaves (ap₂ (λ (k : Rows) (b : Bool). withEntries c (c .made) k b) (nx ∙ sym (rows-form c left)) (sym off) ∙ entry-refused c left y e z)
+        rows-left (view c .tables .rows) (rw (ne-eqb r 0 z) refl) (changes-none (view c .tables) ∙ ap onlyMenu (sym (ap (λ (b : Bool). shown && b) still ∙ and-false shown))) nx
 
     rows-changed
         : r ≡ 0
@@ -116,13 +107,10 @@ module _ (c : Card) (left : Left c) (n : ℕ) (y : EntryCall) {r : ℕ} (e : r �
         → menuChanges (view c .tables) (withRows (view c .tables) rows) ≡ (applet (view c .tables) n .selectable && w .turns)
         → w .rows ≡ storedRows rows
         → _≡_ {A = Reply} (record { card = withEntries c (c .made) (w .rows) x; answer = a }) (replied (step (view c) (entry y)))
+    unfolding tablesAfter
     rows-changed z rows here ts shows nx =
-        let t = view c .tables in
-        leaves
-        (entry-card c left (withRows t rows) refl refl (λ e. refl) refl refl (made-form c left) nx
-        (rows-turn t rows ∙ ap onlyMenu (shows ∙ ap (λ (b : Bool). b && w .turns) (sym (sh ∙ selectable-there c left n here)))) due
-        ∙ ap (λ (s : Tables). stored (record { tables = s; desk = marked t s (view c .desk) })) (sym ts)
-        ∙ ap stored (sym (entry-after c left y e z)))
+        rows-left rows (ap (tablesBy (view c) (entry y)) z ∙ ts)
+        (rows-turn (view c .tables) rows ∙ ap onlyMenu (shows ∙ ap (λ (b : Bool). b && w .turns) (sym (sh ∙ selectable-there c left n here)))) nx
 
 -- what acceptance says
 two-lines : (there its : Bool) → firstHolding (line 2 (not there) ∷ line 11 (not its) ∷ []) ≡ 0 → its ≡ true
@@ -151,7 +139,7 @@ turn-answer t n i false = refl
 
 module _ (c : Card) (left : Left c) (n i : ℕ) (on : Bool) {there : Bool} (found : there ≡ has? (c .roll .present) n)
     {shown x : Bool} (sh : shown ≡ has? (c .selectable) n) {w : Touched} (is : w ≡ markedBy n i on (viewRows (c .rows)))
-    (due : x ≡ (c .desk .session && (shown && w .turns) || c .desk .due .menu))
+    (due : MenuMark (c .desk) (shown && w .turns) x)
     {r : ℕ} (e : r ≡ firstHolding (line 2 (not there) ∷ line 11 (not (w .its)) ∷ [])) {a : Answer} (says : a ≡ storedAnswer (refusedWith r))
   where
     its-is : w .its ≡ some? (itsRow n i) (view c .tables .rows)
@@ -187,7 +175,7 @@ module _ (c : Card) (left : Left c) (n i : ℕ) (on : Bool) {there : Bool} (foun
 module _ (c : Card) (left : Left c) (n i : ℕ) (help : Bool) (text : List ℕ) {there : Bool} (found : there ≡ has? (c .roll .present) n)
     {shown x : Bool} (sh : shown ≡ has? (c .selectable) n) {g : Grant} (granted : g ≡ byNumber (grantOf nobody) (c .roll .grants) n)
     {fits : Bool} (fit : fits ≡ not (unfitText (g .text) text)) {w : Touched} (is : w ≡ rewordedBy n i fits help text (viewRows (c .rows)))
-    (due : x ≡ (c .desk .session && (shown && w .turns) || c .desk .due .menu))
+    (due : MenuMark (c .desk) (shown && w .turns) x)
     {r : ℕ} (e : r ≡ firstHolding (line 2 (not there) ∷ line 11 (not (w .its)) ∷ line 12 (not fits) ∷ [])) {a : Answer} (says : a ≡ storedAnswer (refusedWith r))
   where
     row-is : w .its ≡ some? (itsRow n i) (view c .tables .rows)

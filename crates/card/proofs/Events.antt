@@ -3,7 +3,7 @@
 use Prim.Native.Nat.{ℕ, _≤_, _<_}
 use native.Mathlib.Omega.{arith}
 use mathlib.Core.Path.{_≡_, refl, sym, ap, _∙_}
-use mathlib.Core.Bool.{Bool, true, false, not, _&&_, _||_}
+use mathlib.Core.Bool.{Bool, true, false, not, _&&_}
 use mathlib.Core.List.{List, [], _∷_}
 use lib.IntN.{ℤ}
 use lib.ListN.{length, getD, set, length-set}
@@ -46,11 +46,11 @@ use Rattle.card.specs.Replies.{replied}
 use Rattle.rules.specs.Held.{storedAnswer}
 use Rattle.card.specs.Turns.{setAfter, ownerAfter}
 use Rattle.card.proofs.Left.{left-sound, left-bounds}
-use Rattle.card.proofs.Marks.{onlyEvents, withEventsDue, events-desk}
+use Rattle.card.proofs.Marks.{onlyEvents, withEventsDue, EventsMark, events-desk}
 use Rattle.card.proofs.Turned.{event-turns}
 use Rattle.card.proofs.Present.{present-by, found-by}
 use Rattle.card.proofs.Listeners.{set-is, event-by}
-use Rattle.card.proofs.Replied.{replies, tablesBy, after-by, answer-by, next-card, selectable-form, registered-form, control-form}
+use Rattle.card.proofs.Replied.{tablesBy, after-by, plain-reply, next-card, selectable-form, registered-form, control-form}
 
 -- set event, or clear event, and its refusal
 abbrev turning : (applet : ℕ) (value : ℤ) → Bool → EventCall
@@ -65,7 +65,11 @@ unfolding refusal lines eventLines ownedByAnother
 turn-refusal-is m n v true e f = rw (e, ← not-not (absent (m .tables) n), f) refl
 turn-refusal-is m n v false e f = rw (e, ← not-not (absent (m .tables) n), f) refl
 
--- a call that leaves what an install fixes, who is selectable, the entries made, the rows and the timers
+-- THE CARD AFTER A CALL ABOUT EVENTS: who is registered, the owner of call control, and whether the event list is due
+abbrev withEvents : Card → (registered : List ℕ) → (control : ℕ) → (due : Bool) → Card
+withEvents c registered control due =
+    record { roll = c .roll; selectable = c .selectable; registered = registered; made = c .made; control = control; rows = c .rows; bank = c .bank; desk = withEventsDue (c .desk) due }
+
 module _ (c : Card) (left : Left c) (u : Tables) where
   abbrev t : Tables
   t = view c .tables
@@ -80,10 +84,8 @@ module _ (c : Card) (left : Left c) (u : Tables) where
       → g ≡ table 20 (registeredSet (u .applets))
       → o ≡ u .control
       → changes t u ≡ onlyEvents turns
-      → due ≡ (c .desk .session && turns || c .desk .due .events)
-      → _≡_ {A = Card}
-      (record { roll = c .roll; selectable = c .selectable; registered = g; made = c .made; control = o; rows = c .rows; bank = c .bank; desk = withEventsDue (c .desk) due })
-      (stored (record { tables = u; desk = marked t u (view c .desk) }))
+      → EventsMark (c .desk) turns due
+      → withEvents c g o due ≡ stored (record { tables = u; desk = marked t u (view c .desk) })
   events-card roll sel made rows timers reg own turns due =
       next-card c left u roll made rows timers (selectable-form c left ∙ sym sel) reg own (events-desk c left u turns due)
 
@@ -210,17 +212,14 @@ module _
 
     -- what the struct holds after the call, where the tables are u
     abbrev After : (set owner : ℕ) (due : Bool) → Tables → Type 0
-    After g o due u =
-        _≡_ {A = Card}
-        (record { roll = c .roll; selectable = c .selectable; registered = set (c .registered) p g; made = c .made; control = o; rows = c .rows; bank = c .bank; desk = withEventsDue (c .desk) due })
-        (stored (record { tables = u; desk = marked (m .tables) u (m .desk) }))
+    After g o due u = withEvents c (set (c .registered) p g) o due ≡ stored (record { tables = u; desk = marked (m .tables) u (m .desk) })
 
     module _
         {g o : ℕ} {turns due : Bool}
         (sets : g ≡ setAfter r p (getD (c .registered) p 0) n on)
         (ev : turns ≡ eventsTurn p (getD (c .registered) p 0) g (c .selectable))
         (owns : o ≡ ownerAfter r p (c .control) n on)
-        (marks : due ≡ (c .desk .session && turns || c .desk .due .events))
+        (marks : EventsMark (c .desk) turns due)
       where
         abbrev was′ : ℕ
         was′ = getD (c .registered) p 0
@@ -274,12 +273,6 @@ module _
             go false b e f = when-refused e
 
         pub turns-event : {a : Answer} → a ≡ storedAnswer (refusedWith r)
-            → _≡_ {A = Reply}
-            (record {
-              card = record { roll = c .roll; selectable = c .selectable; registered = set (c .registered) p g; made = c .made; control = o; rows = c .rows; bank = c .bank; desk = withEventsDue (c .desk) due };
-              answer = a;
-            })
-            (replied (step m (event call)))
+            → _≡_ {A = Reply} (record { card = withEvents c (set (c .registered) p g) o due; answer = a }) (replied (step m (event call)))
         turns-event e =
-            replies (step m (event call)) (card-after ∙ ap stored (sym (after-by m (event call) refusal-is still)))
-            (e ∙ ap storedAnswer (sym (answer-by m (event call) refusal-is (plain on))))
+            plain-reply m (event call) refusal-is (plain on) (card-after ∙ ap stored (sym (after-by m (event call) refusal-is still refl))) e

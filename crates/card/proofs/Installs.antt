@@ -6,7 +6,7 @@ use mathlib.Core.Path.{_≡_, refl, sym, ap, _∙_}
 use mathlib.Core.Bool.{Bool, true, false}
 use mathlib.Core.List.{List}
 use lib.ListN.{length, getD}
-use borrow.Author.Tests.{eqb-true, ne-eqb}
+use borrow.Author.Tests.{eqb-true}
 use Rattle.lists.specs.Tests.{if_then_else_, _==_}
 use Rattle.lists.specs.Lists.{Every, some?}
 use Rattle.lists.specs.Tables.{table}
@@ -21,14 +21,13 @@ use Rattle.rules.specs.declared.Answer.{Answer}
 use Rattle.rules.specs.declared.Grant.{Grant}
 use Rattle.rules.specs.declared.Request.{Request}
 use Rattle.rules.specs.declared.Roll.{Roll}
-use Rattle.rules.specs.Holds.{Applet, Row, Bounds, Tables, Desk, Model}
+use Rattle.rules.specs.Holds.{Applet, Row, Bounds, Tables, Model}
 use Rattle.rules.specs.Held.{storedAnswer}
 use Rattle.rules.specs.Applets.{hasNumber, nobody, present, applet, newcomer}
 use Rattle.rules.specs.Calls.{Call, admin, install, accepted, refusedWith}
 use Rattle.rules.specs.Desk.{marked}
 use Rattle.rules.specs.Refusals.{lines, refusal}
 use Rattle.rules.specs.Step.{step, tablesAfter, adminTables, deskAfter, answer}
-use Rattle.rules.proofs.DueMarks.{marked-same}
 use Rattle.runs.specs.Sound.{SoundApplet, SoundTables}
 use Rattle.runs.proofs.Looked.{each-found, absent-nobody}
 use Rattle.runs.proofs.Filled.{Installs, installs}
@@ -42,11 +41,11 @@ use Rattle.card.specs.declared.Card.{Card}
 use Rattle.card.specs.declared.Reply.{Reply}
 use Rattle.card.specs.View.{view, stored, Left}
 use Rattle.card.specs.Replies.{replied}
-use Rattle.card.proofs.Left.{left-form, left-sound, left-bounds}
+use Rattle.card.proofs.Left.{left-sound, left-bounds}
 use Rattle.card.proofs.Marks.{quiet-desk}
 use Rattle.card.proofs.Turned.{install-turns}
 use Rattle.card.proofs.Order.{count-is}
-use Rattle.card.proofs.Replied.{replies, tablesBy, after-by, answer-by, card-is, roll-form, selectable-form, registered-form, made-form, control-form, rows-form, bank-form}
+use Rattle.card.proofs.Replied.{after-by, plain-reply, refused-stays, card-is, roll-form, selectable-form, registered-form, made-form, control-form, rows-form, bank-form}
 
 module _ (c : Card) (left : Left c) (n : ℕ) (q : Request) where
   abbrev t : Tables
@@ -163,9 +162,8 @@ module _ (c : Card) (left : Left c) (n : ℕ) (q : Request) where
     pub accepts : r ≡ 0 → refusal m call ≡ 0
     accepts h = sym refusal-is ∙ h
 
-    -- the card that a call leaves, by its refusal
     abbrev Leaves : Card → Type 0
-    Leaves k = k ≡ stored (record { tables = tablesBy m call r; desk = marked t (tablesBy m call r) (m .desk) })
+    Leaves k = k ≡ stored (step m call .after)
 
     pub with-newcomer
         : (h : r ≡ 0) {g : Grant} {s : ℕ} {w : Roll} {k : Card}
@@ -174,15 +172,11 @@ module _ (c : Card) (left : Left c) (n : ℕ) (q : Request) where
         → s ≡ switchedSet (c .selectable) n true
         → k ≡ record { roll = w; selectable = s; registered = c .registered; made = c .made; control = c .control; rows = c .rows; bank = c .bank; desk = c .desk }
         → Leaves k
-    unfolding tablesAfter
-    with-newcomer h e f i is = rw h (is ∙ joined (accepts h) e f i)
+    unfolding tablesAfter deskAfter
+    with-newcomer h e f i is = is ∙ joined (accepts h) e f i ∙ ap stored (sym (after-by m call refusal-is refl (rw h refl)))
 
     pub as-it-was : (r ≡ 0 → ⊥) → {k : Card} → k ≡ c → Leaves k
-    as-it-was h is =
-        rw (ne-eqb r 0 h) (is ∙ left-form c left ∙ ap (λ (d : Desk). stored (record { tables = t; desk = d })) (sym (marked-same t (m .desk))))
+    as-it-was h is = is ∙ refused-stays c left call refusal-is h
 
     pub install-replies : {k : Card} {a : Answer} → Leaves k → a ≡ storedAnswer (refusedWith r) → _≡_ {A = Reply} (record { card = k; answer = a }) (replied (step m call))
-    install-replies e f =
-        replies (step m call)
-        (e ∙ ap stored (sym (after-by m call refusal-is (unfold deskAfter in refl))))
-        (f ∙ ap storedAnswer (sym (answer-by m call refusal-is (unfold answer in refl))))
+    install-replies = plain-reply m call refusal-is (unfold answer in refl)

@@ -1,9 +1,9 @@
 -- What lock and unlock leave of the card.
 -- Assumes nothing.
-use Prim.Native.Nat.{ℕ, _≤_, _<_}
+use Prim.Native.Nat.{ℕ, _≤_}
 use native.Mathlib.Omega.{arith}
 use mathlib.Core.Path.{_≡_, refl, sym, ap, ap₂, _∙_}
-use mathlib.Core.Bool.{Bool, true, false, not, Bool·beq, _&&_, _||_}
+use mathlib.Core.Bool.{Bool, true, false, not, Bool·beq, _&&_}
 use mathlib.Core.List.{List}
 use Rattle.lists.specs.Tests.{if_then_else_, _==_}
 use Rattle.lists.specs.Lists.{some?, change}
@@ -17,7 +17,7 @@ use Rattle.rules.specs.Holds.{Applet, Tables, Model, withApplets, withSelectabl
 use Rattle.rules.specs.Held.{viewRows, storedAnswer}
 use Rattle.rules.specs.Applets.{hasNumber, present, applet}
 use Rattle.rules.specs.Calls.{AdminCall, Outcome, admin, lock, unlock, accepted, refusedWith}
-use Rattle.rules.specs.Desk.{menuChanges, eventsChange, marked}
+use Rattle.rules.specs.Desk.{menuChanges, eventsChange}
 use Rattle.rules.specs.Refusals.{lines, firstHolding, absent, adminLines, refusal}
 use Rattle.rules.specs.Step.{step, outcome, tablesAfter, adminTables, deskAfter, answer}
 use Rattle.runs.proofs.AlreadySo.{lock-a-locked-one, unlock-a-selectable-one}
@@ -32,8 +32,8 @@ use Rattle.card.specs.declared.Reply.{Reply}
 use Rattle.card.specs.View.{view, stored, Left}
 use Rattle.card.specs.Replies.{replied}
 use Rattle.card.proofs.Left.{left-form, left-sound, left-bounds}
-use Rattle.card.proofs.Replied.{replies, after-by, answer-by, next-card, registered-form, control-form}
-use Rattle.card.proofs.Marks.{menuAndEvents, withBothDue, both-desk}
+use Rattle.card.proofs.Replied.{tablesBy, after-by, plain-reply, next-card, registered-form, control-form}
+use Rattle.card.proofs.Marks.{menuAndEvents, withBothDue, MenuMark, EventsMark, both-desk}
 use Rattle.card.proofs.Turned.{admin-turns}
 use Rattle.card.proofs.Present.{present-by, gone-by, selectable-has, selectable-there}
 use Rattle.card.proofs.Listeners.{set-is, codes-by}
@@ -122,9 +122,6 @@ module _ (c : Card) (left : Left c) (n : ℕ) (on : Bool) {there : Bool} (found 
   abbrev Says : Card → Answer → Type 0
   Says k a = _≡_ {A = Reply} (record { card = k; answer = a }) (replied (step m (admin (locking on n))))
 
-  leaves : {k : Card} {a : Answer} → k ≡ stored (step m (admin (locking on n)) .after) → a ≡ storedAnswer (refusedWith r) → Says k a
-  leaves is e = replies (step m (admin (locking on n))) is (e ∙ ap storedAnswer (sym (answer-by m (admin (locking on n)) refusal-is plain)))
-
   -- the lock turns
   pub lock-turned
       : {k : Card} {s : ℕ} {menu events x y : Bool} {a : Answer}
@@ -132,20 +129,22 @@ module _ (c : Card) (left : Left c) (n : ℕ) (on : Bool) {there : Bool} (found 
       → s ≡ switchedSet (c .selectable) n on
       → menu ≡ (there && (not (Bool·beq (has? (c .selectable) n) on) && hasEnabledRow n (viewRows (c .rows))))
       → events ≡ anyCode (codeTurns (c .registered) (c .selectable) s)
-      → x ≡ (c .desk .session && menu || c .desk .due .menu)
-      → y ≡ (c .desk .session && events || c .desk .due .events)
+      → MenuMark (c .desk) menu x
+      → EventsMark (c .desk) events y
       → k ≡ record { roll = c .roll; selectable = s; registered = c .registered; made = c .made; control = c .control; rows = c .rows; bank = c .bank; desk = withBothDue (c .desk) x y }
       → a ≡ storedAnswer (refusedWith r)
       → Says k a
   unfolding tablesAfter present
-  lock-turned {k} turns sets mv ev mx my is e =
+  lock-turned turns sets mv ev mx my is e =
       let h = and-left there (not (Bool·beq (has? (c .selectable) n) on)) turns in
       let z : r ≡ 0 = refused ∙ rw h refl in
       let is-here : present (m .tables) n ≡ true = sym (found ∙ present-by c left n) ∙ h in
       let l = m .tables .applets in
       let u = withApplets (m .tables) (change (hasNumber n) (withSelectable on) l) in
-      let left-so : k ≡ stored (record { tables = u; desk = marked (m .tables) u (m .desk) }) =
-      is
+      let menu-is = mv ∙ ap (λ (b : Bool). b && (not (Bool·beq (has? (c .selectable) n) on) && hasEnabledRow n (viewRows (c .rows)))) h ∙ menu-differs c left n on is-here in
+      let events-are = ev ∙ ap (λ (k : ℕ). anyCode (codeTurns (c .registered) (c .selectable) k)) sets ∙ codes-differ c left n on is-here in
+      plain-reply m (admin (locking on n)) refusal-is plain
+      (is
       ∙ next-card c left u
       (roll-kept l n (withSelectable on) is-here (λ k. refl))
       (made-kept l n (withSelectable on) is-here (λ k. refl) (λ k. refl))
@@ -153,14 +152,9 @@ module _ (c : Card) (left : Left c) (n : ℕ) (on : Bool) {there : Bool} (found 
       (sets ∙ selectable-turned c left n on is-here)
       (registered-form c left ∙ table-alike 20 _ _ (λ e k. sym (registered-same c left n on is-here e)))
       (control-form c left)
-      (both-desk c left u
-      (rw (tables-are on) at (admin-turns (m .tables) (locking on n))
-      ∙ sym
-      (ap₂ menuAndEvents
-      (mv ∙ ap (λ (b : Bool). b && (not (Bool·beq (has? (c .selectable) n) on) && hasEnabledRow n (viewRows (c .rows)))) h ∙ menu-differs c left n on is-here)
-      (ev ∙ ap (λ (k : ℕ). anyCode (codeTurns (c .registered) (c .selectable) k)) sets ∙ codes-differ c left n on is-here)))
-      mx my) in
-      leaves (rw (after-by m (admin (locking on n)) refusal-is still, z, tables-are on) left-so) e
+      (both-desk c left u (rw (tables-are on) at (admin-turns (m .tables) (locking on n)) ∙ sym (ap₂ menuAndEvents menu-is events-are)) mx my)
+      ∙ ap stored (sym (after-by m (admin (locking on n)) refusal-is still (ap (tablesBy m (admin (locking on n))) z ∙ tables-are on))))
+      e
 
   -- it does not: the applet is not there, or so already
   pub lock-still
@@ -170,7 +164,7 @@ module _ (c : Card) (left : Left c) (n : ℕ) (on : Bool) {there : Bool} (found 
       → a ≡ storedAnswer (refusedWith r)
       → Says k a
   unfolding step outcome
-  lock-still same is e = leaves (is ∙ left-form c left ∙ ap stored (sym (go there refl same))) e
+  lock-still same is e = plain-reply m (admin (locking on n)) refusal-is plain (is ∙ left-form c left ∙ ap stored (sym (go there refl same))) e
     where
       so : (b : Bool) → absent (m .tables) n ≡ false → applet (m .tables) n .selectable ≡ b → step m (admin (locking b n)) .after ≡ m
       so true known is = ap (λ (o : Outcome). o .after) (unlock-a-selectable-one m n known is)

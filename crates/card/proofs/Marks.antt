@@ -33,6 +33,13 @@ withMenuDue d b = withBothDue d b (d .due .events)
 abbrev pub withEventsDue : held.Desk → Bool → held.Desk
 withEventsDue d b = withBothDue d (d .due .menu) b
 
+-- the mark after a call that turns what it is for, or does not
+abbrev pub MenuMark : held.Desk → (turns due : Bool) → Type 0
+MenuMark d turns due = due ≡ (d .session && turns || d .due .menu)
+
+abbrev pub EventsMark : held.Desk → (turns due : Bool) → Type 0
+EventsMark d turns due = due ≡ (d .session && turns || d .due .events)
+
 or-turned : (a b : Bool) → (a || b) ≡ (b || a)
 or-turned true true = refl
 or-turned true false = refl
@@ -40,7 +47,7 @@ or-turned false true = refl
 or-turned false false = refl
 
 -- what turns nothing leaves a mark
-pub unmarked : (session due : Bool) → due ≡ (session && false || due)
+unmarked : (session due : Bool) → due ≡ (session && false || due)
 unmarked true b = refl
 unmarked false b = refl
 
@@ -48,8 +55,8 @@ due-desk
     : (t u : Tables) (d : Desk) {k : held.Desk} {menu events x y : Bool}
     → k ≡ storedDesk d
     → changes t u ≡ menuAndEvents menu events
-    → x ≡ (k .session && menu || k .due .menu)
-    → y ≡ (k .session && events || k .due .events)
+    → MenuMark k menu x
+    → EventsMark k events y
     → withBothDue k x y ≡ storedDesk (marked t u d)
 unfolding storedDesk marked either
 due-desk t u d {menu = menu} {events = events} e turns x y = rw (x, y, e, turns) (go (d .session))
@@ -68,14 +75,13 @@ module _ (c : Card) (left : Left c) (u : Tables) where
   abbrev Marked : held.Desk → Type 0
   Marked k = k ≡ storedDesk (marked t u (view c .desk))
 
-  pub both-desk : {menu events x y : Bool} → changes t u ≡ menuAndEvents menu events
-      → x ≡ (c .desk .session && menu || c .desk .due .menu) → y ≡ (c .desk .session && events || c .desk .due .events) → Marked (withBothDue (c .desk) x y)
+  pub both-desk : {menu events x y : Bool} → changes t u ≡ menuAndEvents menu events → MenuMark (c .desk) menu x → EventsMark (c .desk) events y → Marked (withBothDue (c .desk) x y)
   both-desk = due-desk t u (view c .desk) (desk-form c left)
 
-  pub menu-desk : {menu x : Bool} → changes t u ≡ onlyMenu menu → x ≡ (c .desk .session && menu || c .desk .due .menu) → Marked (withMenuDue (c .desk) x)
+  pub menu-desk : {menu x : Bool} → changes t u ≡ onlyMenu menu → MenuMark (c .desk) menu x → Marked (withMenuDue (c .desk) x)
   menu-desk turns x = both-desk turns x (unmarked (c .desk .session) (c .desk .due .events))
 
-  pub events-desk : {events y : Bool} → changes t u ≡ onlyEvents events → y ≡ (c .desk .session && events || c .desk .due .events) → Marked (withEventsDue (c .desk) y)
+  pub events-desk : {events y : Bool} → changes t u ≡ onlyEvents events → EventsMark (c .desk) events y → Marked (withEventsDue (c .desk) y)
   events-desk turns y = both-desk turns (unmarked (c .desk .session) (c .desk .due .menu)) y
 
   pub quiet-desk : changes t u ≡ nothingDue → Marked (c .desk)

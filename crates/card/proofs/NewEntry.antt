@@ -3,7 +3,7 @@
 use Prim.Native.Nat.{ℕ, zero, suc, _+_, _<_}
 use native.Mathlib.Omega.{arith}
 use mathlib.Core.Path.{_≡_, refl, sym, ap, ap₂, _∙_}
-use mathlib.Core.Bool.{Bool, not, _&&_, _||_}
+use mathlib.Core.Bool.{Bool, not}
 use mathlib.Core.List.{List, [], _∷_}
 use lib.ListN.{length, take, getD}
 use lib.Seq.{take-all}
@@ -17,9 +17,9 @@ use Rattle.rules.specs.Holds.{Applet, Row, Bounds, Tables, withOneMore}
 use Rattle.rules.specs.Held.{viewRows, storedRows, storedAnswer}
 use Rattle.rules.specs.Applets.{nobody, present, applet, entries}
 use Rattle.rules.specs.Rows.{noPair, nextPair, nextIdentifier, withEntry}
-use Rattle.rules.specs.Calls.{entry, newEntry, accepted, refusedWith, numbered}
+use Rattle.rules.specs.Calls.{entry, newEntry, refusedWith, numbered}
 use Rattle.rules.specs.Refusals.{line, firstHolding, refusal}
-use Rattle.rules.specs.Step.{step, outcome, entryTables, answer, entryAnswer}
+use Rattle.rules.specs.Step.{step, outcome, tablesAfter, deskAfter, entryTables, answer, entryAnswer}
 use Rattle.runs.specs.Sound.{SoundTables}
 use Rattle.runs.proofs.Looked.{has-its-number, sound-applet}
 use Rattle.runs.proofs.Filled.{NewEntry, new-entry}
@@ -37,11 +37,11 @@ use Rattle.card.specs.declared.Reply.{Reply}
 use Rattle.card.specs.View.{view, stored, Left}
 use Rattle.card.specs.Replies.{replied}
 use Rattle.card.proofs.Left.{left-sound, left-bounds}
-use Rattle.card.proofs.Replied.{replies, made-form}
+use Rattle.card.proofs.Replied.{replies, tablesBy, after-by, refused-stays, made-form}
 use Rattle.card.proofs.Present.{found-by, grant-is, made-is, selectable-there}
-use Rattle.card.proofs.Marks.{onlyMenu}
+use Rattle.card.proofs.Marks.{onlyMenu, MenuMark}
 use Rattle.card.proofs.Turned.{entry-turns}
-use Rattle.card.proofs.EntryRows.{withEntries, entry-after, entry-refused, entry-card}
+use Rattle.card.proofs.EntryRows.{withEntries, entry-card}
 
 -- the rows with the new one, and its identifier
 entered-is
@@ -88,7 +88,7 @@ module _ (c : Card) (left : Left c) (n : ℕ) (help : Bool) (text : List ℕ) {t
 
     pub new-refused : (i : ℕ) {a : Answer} {s : Card} → a ≡ storedAnswer (if r == 0 then numbered i else refusedWith r) → (r ≡ 0 → ⊥) → s ≡ c → _≡_ {A = Reply} (record { card = s; answer = a }) (replied (step (view c) (entry (newEntry n help text))))
     new-refused i says z is =
-        replies (step (view c) (entry (newEntry n help text))) (is ∙ entry-refused c left (newEntry n help text) is-new z) (gives-number (λ h. absurd (z h)) says)
+        replies (step (view c) (entry (newEntry n help text))) (is ∙ refused-stays c left (entry (newEntry n help text)) is-new z) (gives-number (λ h. absurd (z h)) says)
 
     module _ (z : r ≡ 0) where
       news : NewEntry t n text
@@ -118,11 +118,11 @@ module _ (c : Card) (left : Left c) (n : ℕ) (help : Bool) (text : List ℕ) {t
           → e ≡ enteredBy p n help text (viewRows (c .rows))
           → more ≡ madeWith (c .made) n (k + 1)
           → turns ≡ has? (c .selectable) n
-          → y ≡ (c .desk .session && turns || c .desk .due .menu)
+          → MenuMark (c .desk) turns y
           → s ≡ withEntries c more (e .rows) y
           → i ≡ e .identifier
           → _≡_ {A = Reply} (record { card = s; answer = a }) (replied (step (view c) (entry (newEntry n help text))))
-      unfolding entryTables view present applet
+      unfolding tablesAfter entryTables deskAfter view present applet
       new-accepted {p} {e = e} says pp ee mm tu y is ii =
           let here = news .here in
           let pair : p ≡ nextPair x = pp ∙ ap₂ (λ (h : Grant) (m : ℕ). getD (h .pairs) m noPair) grant-of made-of ∙ pair-next x (news .more) in
@@ -140,5 +140,5 @@ module _ (c : Card) (left : Left c) (n : ℕ) (help : Bool) (text : List ℕ) {t
           (ap (λ (h : Added). h .rows) both)
           (entry-turns t (sound .numbers-apart) n here help text ∙ ap onlyMenu (sym (tu ∙ selectable-there c left n here)))
           y
-          ∙ ap stored (sym (entry-after c left (newEntry n help text) is-new z)))
+          ∙ ap stored (sym (after-by (view c) (entry (newEntry n help text)) is-new refl (ap (tablesBy (view c) (entry (newEntry n help text))) z))))
           (gives-number (λ h. ii ∙ ap (λ (h : Added). h .identifier) both) says)

@@ -1,6 +1,6 @@
 -- What a profile leaves of the card, and whom it calls.
 -- Assumes nothing.
-use Prim.Native.Nat.{ℕ, zero, suc}
+use Prim.Native.Nat.{ℕ, suc}
 use native.Mathlib.Omega.{arith}
 use mathlib.Core.Path.{_≡_, refl, sym, ap, ap₂, _∙_}
 use mathlib.Core.Bool.{Bool, false}
@@ -34,10 +34,10 @@ use Rattle.arrivals.specs.Answers.{answering, Begins}
 use Rattle.arrivals.proofs.IsFor.{for-event}
 use Rattle.card.specs.declared.Card.{Card}
 use Rattle.card.specs.declared.Reply.{Reply}
-use Rattle.card.specs.View.{view, stored, Left}
+use Rattle.card.specs.View.{view, Left}
 use Rattle.card.specs.Replies.{replied}
-use Rattle.card.proofs.Left.{left-form, left-sound, left-bounds}
-use Rattle.card.proofs.Replied.{replies, card-is, roll-form, selectable-form, registered-form, made-form, control-form, rows-form, bank-form, desk-form}
+use Rattle.card.proofs.Left.{left-sound, left-bounds}
+use Rattle.card.proofs.Replied.{replies, refused-stays, card-is, roll-form, selectable-form, registered-form, made-form, control-form, rows-form, bank-form, desk-form}
 use Rattle.card.proofs.Calling.{answers}
 
 no-bytes : (bytes : List ℕ) → (length bytes == 0) ≡ empty? bytes
@@ -113,9 +113,4 @@ module _ (c : Card) (left : Left c) (bytes : List ℕ) where
           answer-is
 
       pub refuses-profile : (r ≡ 0 → ⊥) → _≡_ {A = Reply} (record { card = c; answer = b }) (replied (step m it))
-      unfolding outcome
-      refuses-profile n = replies (step m it) (left-form c left ∙ ap stored (sym (go r refl))) answer-is
-        where
-          go : (j : ℕ) → r ≡ j → step m it .after ≡ m
-          go zero z = absurd (n z)
-          go (suc j) z = after-is z
+      refuses-profile n = replies (step m it) (refused-stays c left it (e ∙ refusal-is) n) answer-is

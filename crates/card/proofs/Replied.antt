@@ -36,23 +36,23 @@ abbrev pub tablesBy : Model → Call → (refusal : ℕ) → Tables
 tablesBy m x r = if r == 0 then tablesAfter (m .tables) x else m .tables
 
 module _ (m : Model) (x : Call) {r : ℕ} (e : r ≡ refusal m x) where
-  -- what a call leaves that touches the desk by its marks only
-  pub after-by : deskAfter m x ≡ m .desk → step m x .after ≡ record { tables = tablesBy m x r; desk = marked (m .tables) (tablesBy m x r) (m .desk) }
+  -- what a call leaves that touches the desk by its marks only, where it leaves the tables u
+  pub after-by : deskAfter m x ≡ m .desk → {u : Tables} → tablesBy m x r ≡ u → step m x .after ≡ record { tables = u; desk = marked (m .tables) u (m .desk) }
   unfolding step
-  after-by still = ap (λ (k : ℕ). outcome k m x .after) (sym e) ∙ go r
+  after-by still so = ap (λ (k : ℕ). outcome k m x .after) (sym e) ∙ go r ∙ ap (λ (u : Tables). record { tables = u; desk = marked (m .tables) u (m .desk) }) so
     where
       go : (k : ℕ) → outcome k m x .after ≡ record { tables = tablesBy m x k; desk = marked (m .tables) (tablesBy m x k) (m .desk) }
       go zero = unfold outcome changed in ap (λ (d : Desk). record { tables = tablesAfter (m .tables) x; desk = marked (m .tables) (tablesAfter (m .tables) x) d }) still
       go (suc k) = unfold outcome in
           rw (ne-eqb (suc k) 0 (λ z. omega arith)) (ap (λ (d : Desk). record { tables = m .tables; desk = d }) (sym (marked-same (m .tables) (m .desk))))
 
-  -- the answer of a call that refusedWith does something
-  pub answer-by : answer m x ≡ accepted → step m x .answer ≡ refusedWith r
+  -- the reply of a call that answers with its refusal only
+  pub plain-reply : answer m x ≡ accepted → {k : Card} {a : Answer} → k ≡ stored (step m x .after) → a ≡ storedAnswer (refusedWith r) → _≡_ {A = Reply} (record { card = k; answer = a }) (replied (step m x))
   unfolding step
-  answer-by plain = ap (λ (k : ℕ). outcome k m x .answer) (sym e) ∙ go r
+  plain-reply plain is says = replies (step m x) is (says ∙ ap storedAnswer (go r ∙ ap (λ (k : ℕ). outcome k m x .answer) e))
     where
-      go : (k : ℕ) → outcome k m x .answer ≡ refusedWith k
-      go zero = unfold outcome in plain
+      go : (k : ℕ) → refusedWith k ≡ outcome k m x .answer
+      go zero = unfold outcome in sym plain
       go (suc k) = unfold outcome in refl
 
 -- a call that changes neither the tables nor the desk leaves the card
@@ -63,6 +63,15 @@ stays c left x same still = left-form c left ∙ ap stored (sym (go (refusal (vi
     go : (k : ℕ) → outcome k (view c) x .after ≡ view c
     go zero = unfold outcome changed in rw (same, still) (ap (λ (d : Desk). record { tables = view c .tables; desk = d }) (marked-same (view c .tables) (view c .desk)))
     go (suc k) = unfold outcome in refl
+
+-- and so does a call that is refused
+pub refused-stays : (c : Card) → Left c → (x : Call) {r : ℕ} → r ≡ refusal (view c) x → (r ≡ 0 → ⊥) → c ≡ stored (step (view c) x .after)
+unfolding step
+refused-stays c left x {r} e z = left-form c left ∙ go r z ∙ ap (λ (k : ℕ). stored (outcome k (view c) x .after)) e
+  where
+    go : (k : ℕ) → (k ≡ 0 → ⊥) → stored (view c) ≡ stored (outcome k (view c) x .after)
+    go zero z = absurd (z refl)
+    go (suc k) z = unfold outcome in refl
 
 -- the card that holds a model, part by part
 pub card-is

@@ -2,7 +2,7 @@
 -- Assumes nothing.
 use Prim.Native.Nat.{ℕ, zero, suc}
 use native.Mathlib.Omega.{arith}
-use mathlib.Core.Path.{_≡_, refl, sym, ap, _∙_}
+use mathlib.Core.Path.{_≡_, refl, ap, _∙_}
 use mathlib.Core.Bool.{Bool, true, false, not}
 use mathlib.Core.List.{List, [], _∷_}
 use borrow.Author.Tests.{ne-eqb}
@@ -26,7 +26,7 @@ use Rattle.card.specs.declared.Reply.{Reply}
 use Rattle.card.specs.View.{view, stored, Left}
 use Rattle.card.specs.Replies.{replied}
 use Rattle.card.proofs.Left.{left-form}
-use Rattle.card.proofs.Replied.{replies, answer-by, card-is, roll-form, selectable-form, registered-form, made-form, control-form, rows-form, bank-form, desk-form}
+use Rattle.card.proofs.Replied.{plain-reply, card-is, roll-form, selectable-form, registered-form, made-form, control-form, rows-form, bank-form, desk-form}
 use Rattle.card.proofs.Present.{found-by}
 
 -- the card with another desk
@@ -66,9 +66,8 @@ module _ (c : Card) (l : Left c) where
         → _≡_ {A = Reply} (record { card = withDesk c (waiting (c .desk) b); answer = a }) (replied (step m (proactive p)))
     unfolding step
     waits q s =
-        replies (step m (proactive p))
-        (ap (λ (b : Bool). withDesk c (waiting (c .desk) b)) q ∙ by-refusal r ∙ ap (λ (k : ℕ). stored (outcome k m (proactive p) .after)) e)
-        (s ∙ ap storedAnswer (sym (answer-by m (proactive p) e plain)))
+        plain-reply m (proactive p) e plain
+        (ap (λ (b : Bool). withDesk c (waiting (c .desk) b)) q ∙ by-refusal r ∙ ap (λ (k : ℕ). stored (outcome k m (proactive p) .after)) e) s
 
   -- RESPONSE
   pub responds : {r : ℕ} {b : Bool} {a : Answer}

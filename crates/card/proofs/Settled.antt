@@ -122,6 +122,6 @@ module _ (c : Card) (left : Left c) where
       replies (step m settled)
       (ap (λ (n : ℕ). left-card (set (c .registered) handlerAvailable n)) (q ∙ ap (setWithout waiting) p)
       ∙ card-after r
-      ∙ ap stored (sym (after-by m settled (e ∙ refusal-is) still)))
+      ∙ ap stored (sym (after-by m settled (e ∙ refusal-is) still refl)))
       (answers c left settledArrival (for-event (m .tables) (registered-form c left) handlerAvailable (omega arith) (λ z. omega arith)) settled (otherMarks (c .desk .outstanding)) accepted
       (e ∙ refusal-is) p f (h ∙ ap (λ (x : Marks). answering r k x) g))

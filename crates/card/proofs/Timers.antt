@@ -1,11 +1,10 @@
 -- What allocate and release leave of the card: what the bank's own call gives, for an applet that is there.
 -- Assumes nothing.
 use Prim.Native.Nat.{ℕ, zero, suc}
-use native.Mathlib.Omega.{arith}
 use mathlib.Core.Path.{_≡_, refl, sym, ap, _∙_}
 use mathlib.Core.Bool.{Bool, true, false, not}
 use mathlib.Core.List.{List}
-use borrow.Author.Tests.{le-leb, ne-eqb}
+use borrow.Author.Tests.{le-leb}
 use Rattle.lists.specs.Tests.{if_then_else_}
 use Rattle.sets.specs.Sets.{has?}
 use Rattle.rules.specs.declared.Bank.{Bank}

@@ -6,7 +6,7 @@ use mathlib.Core.Bool.{Bool, true, false}
 use mathlib.Core.List.{List, map}
 use Rattle.rules.specs.declared.Kind.the-variants.{Event}
 use Rattle.rules.specs.declared.Request.{Request}
-use Rattle.rules.specs.Holds.{Row, Tables, nothingDue, withApplets, withRows, withControl, withTimers}
+use Rattle.rules.specs.Holds.{Row, Tables, nothingDue, withApplets, withRows, withTimers}
 use Rattle.rules.specs.Applets.{present, applet, usedUp, register, withRegistration}
 use Rattle.rules.specs.Rows.{withEntry}
 use Rattle.rules.specs.Calls.{AdminCall, install, newEntry}

@@ -26,7 +26,7 @@ use Rattle.rules.proofs.Listed.{codes-rise}
 use Rattle.runs.specs.Sound.{SoundTables}
 use Rattle.applets.specs.ByNumber.{at, selectableSet, registeredSet}
 use Rattle.applets.proofs.Numbers.{some-by}
-use Rattle.events_shown.specs.Turns.{listens, someFrom, anyCode, codeTurns, isListened}
+use Rattle.events_shown.specs.Turns.{listens, someFrom, anyCode, isListened}
 
 abbrev Below : ℕ → List ℕ → Type 0
 Below c l = Every (λ (d : ℕ). c < d) l
@@ -151,12 +151,3 @@ codes-shown t s b = from-alike _ _ 13 5 (λ e h k. sym (listened-at e h k)) ∙ 
     listened-at e h k =
         listened-meets t s b e h
         ∙ ap (λ (g : ℕ). meets g (selectableSet (t .applets))) (sym (table-at 20 (registeredSet (t .applets)) e 0 (omega arith)))
-
--- the same set turns no code
-none-turns : (g : List ℕ) (s n j : ℕ) → someFrom (codeTurns g s s) n j ≡ false
-unfolding someFrom
-none-turns g s zero j = refl
-none-turns g s (suc n) j = rw (beq-self (meets (getD g j 0) s)) (none-turns g s n (suc j))
-
-pub no-turn : (g : List ℕ) (was is : ℕ) → was ≡ is → false ≡ anyCode (codeTurns g was is)
-no-turn g was is e = sym (ap (λ (s : ℕ). anyCode (codeTurns g was s)) (sym e) ∙ none-turns g was 13 5)

@@ -148,10 +148,6 @@ module _ (p : ℕ → Bool) where
   unfolding has? setOf numbers
   has-set n h k = ap (λ (l : List Bool). getD (false ∷ l) n false) (digits-back (map p numbers)) ∙ one-of (λ (n : ℕ). getD (false ∷ map p numbers) n false ≡ p n) (unfold numbers Every in (refl, (refl, (refl, (refl, (refl, (refl, (refl, (refl, tt))))))))) n h k
 
-  pub set-lt : setOf p < 256
-  unfolding setOf numbers
-  set-lt = omega (arith, not-all p numbers)
-
 -- what is asked of 1 to 8 only
 pub some-each : (p q : ℕ → Bool) → ((k : ℕ) → 1 ≤ k → k ≤ 8 → p k ≡ q k) → some? p numbers ≡ some? q numbers
 some-each p q h = sym (set-some p) ∙ ap (λ (s : ℕ). not (eqb s 0)) (set-alike p q h) ∙ set-some q
