@@ -42,7 +42,7 @@ use Rattle.card.specs.View.{view, stored, Left}
 use Rattle.card.specs.Replies.{replied}
 use Rattle.card.proofs.Left.{left-sound, left-bounds}
 use Rattle.card.proofs.Marks.{menuAndEvents, withBothDue, MenuMark, EventsMark, both-desk}
-use Rattle.card.proofs.Turned.{admin-turns}
+use Rattle.card.proofs.Turned.{admin-turns-both}
 use Rattle.card.proofs.Replied.{after-by, plain-reply, refused-stays, card-is, roll-form, selectable-form, registered-form, made-form}
 use Rattle.card.proofs.Present.{present-by, gone-by, low-is, selectable-there}
 use Rattle.card.proofs.Listeners.{set-is, codes-by}
@@ -143,7 +143,7 @@ module _ (c : Card) (left : Left c) (n : ℕ) (there : has? (c .roll .present) n
       card-is (record { tables = u; desk = marked t u (m .desk) })
       (rl ∙ roll-next) (ss ∙ selectable-next) (rg ∙ registered-next) (md ∙ made-next)
       (ct ∙ control-next) (rs ∙ rows-next) (bk ∙ timers-next)
-      (both-desk c left u (admin-turns t (delete n) ∙ sym (ap₂ menuAndEvents (mv ∙ menu-differs) (ev ∙ ap (λ (k : ℕ). anyCode (codeTurns (c .registered) (c .selectable) k)) ss ∙ events-differ))) mx my)
+      (both-desk c left u (admin-turns-both t (delete n) ∙ sym (ap₂ menuAndEvents (mv ∙ menu-differs) (ev ∙ ap (λ (k : ℕ). anyCode (codeTurns (c .registered) (c .selectable) k)) ss ∙ events-differ))) mx my)
     where
       control-next : forget n (c .control) ≡ u .control
       control-next = unfold adminTables view in refl

@@ -44,7 +44,7 @@ use Rattle.card.specs.View.{view, stored, Left}
 use Rattle.card.specs.Replies.{replied}
 use Rattle.card.proofs.Left.{left-sound, left-bounds}
 use Rattle.card.proofs.Marks.{onlyMenu, withMenuDue, MenuMark, menu-desk}
-use Rattle.card.proofs.Turned.{rows-turn}
+use Rattle.card.proofs.Turned.{rows-turn-menu}
 use Rattle.card.proofs.Replied.{tablesBy, after-by, plain-reply, card-is, roll-form, selectable-form, registered-form, made-form, control-form, bank-form}
 use Rattle.card.proofs.Present.{present-by, found-by, grant-is, selectable-there}
 
@@ -110,7 +110,7 @@ module _ (c : Card) (left : Left c) (n : ℕ) (y : EntryCall) {r : ℕ} (e : r �
     unfolding tablesAfter
     rows-changed z rows here ts shows nx =
         rows-left rows (ap (tablesBy (view c) (entry y)) z ∙ ts)
-        (rows-turn (view c .tables) rows ∙ ap onlyMenu (shows ∙ ap (λ (b : Bool). b && w .turns) (sym (sh ∙ selectable-there c left n here)))) nx
+        (rows-turn-menu (view c .tables) rows ∙ ap onlyMenu (shows ∙ ap (λ (b : Bool). b && w .turns) (sym (sh ∙ selectable-there c left n here)))) nx
 
 -- what acceptance says
 two-lines : (there its : Bool) → firstHolding (line 2 (not there) ∷ line 11 (not its) ∷ []) ≡ 0 → its ≡ true

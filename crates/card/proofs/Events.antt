@@ -47,7 +47,7 @@ use Rattle.rules.specs.Held.{storedAnswer}
 use Rattle.card.specs.Turns.{setAfter, ownerAfter}
 use Rattle.card.proofs.Left.{left-sound, left-bounds}
 use Rattle.card.proofs.Marks.{onlyEvents, withEventsDue, EventsMark, events-desk}
-use Rattle.card.proofs.Turned.{event-turns}
+use Rattle.card.proofs.Turned.{registration-turns-events}
 use Rattle.card.proofs.Present.{present-by, found-by}
 use Rattle.card.proofs.Listeners.{set-is, event-by}
 use Rattle.card.proofs.Replied.{tablesBy, after-by, plain-reply, next-card, selectable-form, registered-form, control-form}
@@ -249,7 +249,7 @@ module _
             rw (accepted-tables (eqb-true r 0 z), is)
             (events-card c left u refl refl refl refl refl
             (sets-stay same) (own ∙ ap (λ (j : ℕ). if on then n else forget n j) (control-form c left))
-            (rw is at (event-turns (m .tables) n p on) ∙ ap onlyEvents (control-events (m .tables) (if on then n else forget n (m .tables .control)) ∙ sym (turns-none same))) marks)
+            (rw is at (registration-turns-events (m .tables) n p on) ∙ ap onlyEvents (control-events (m .tables) (if on then n else forget n (m .tables .control)) ∙ sym (turns-none same))) marks)
 
         when-event : (r == 0) ≡ true → (p == callControl) ≡ false → After g o due (tablesBy m (event call) r)
         when-event z q =
@@ -262,7 +262,7 @@ module _
             (events-card c left u (roll-same c left n p on in-table here′) (selectable-same c left n p on in-table here′) (made-same c left n p on in-table here′)
             refl refl
             (ap (set (c .registered) p) turns-to ∙ sets-are c left n p on in-table here′) (own ∙ control-form c left)
-            (rw is at (event-turns (m .tables) n p on) ∙ ap onlyEvents (sym (ev ∙ ap (λ (s : ℕ). eventsTurn p was′ s (c .selectable)) turns-to ∙ events-differ c left n p on in-table here′))) marks)
+            (rw is at (registration-turns-events (m .tables) n p on) ∙ ap onlyEvents (sym (ev ∙ ap (λ (s : ℕ). eventsTurn p was′ s (c .selectable)) turns-to ∙ events-differ c left n p on in-table here′))) marks)
 
         card-after : After g o due (tablesBy m (event call) r)
         card-after = go (r == 0) (p == callControl) refl refl

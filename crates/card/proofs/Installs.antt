@@ -43,7 +43,7 @@ use Rattle.card.specs.View.{view, stored, Left}
 use Rattle.card.specs.Replies.{replied}
 use Rattle.card.proofs.Left.{left-sound, left-bounds}
 use Rattle.card.proofs.Marks.{quiet-desk}
-use Rattle.card.proofs.Turned.{install-turns}
+use Rattle.card.proofs.Turned.{install-quiet}
 use Rattle.card.proofs.Order.{count-is}
 use Rattle.card.proofs.Replied.{after-by, plain-reply, refused-stays, card-is, roll-form, selectable-form, registered-form, made-form, control-form, rows-form, bank-form}
 
@@ -145,7 +145,7 @@ module _ (c : Card) (left : Left c) (n : ℕ) (q : Request) where
         (f ∙ ap (rollWith (c .roll) n) e ∙ roll-next) (h ∙ selectable-next)
         (registered-form c left ∙ sym registered-next) (made-form c left ∙ sym made-next)
         (unfold adminTables in control-form c left) (unfold adminTables in rows-form c left) (unfold adminTables in bank-form c left)
-        (quiet-desk c left u (install-turns t (sound .numbers-apart) n q no-row))
+        (quiet-desk c left u (install-quiet t (sound .numbers-apart) n q no-row))
 
   -- INSTALL, by what the parts of the code say
   module _ {r : ℕ} (refuses : RefusesInstall (c .roll) n q r) where

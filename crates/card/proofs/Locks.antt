@@ -34,7 +34,7 @@ use Rattle.card.specs.Replies.{replied}
 use Rattle.card.proofs.Left.{left-form, left-sound, left-bounds}
 use Rattle.card.proofs.Replied.{tablesBy, after-by, plain-reply, next-card, registered-form, control-form}
 use Rattle.card.proofs.Marks.{menuAndEvents, withBothDue, MenuMark, EventsMark, both-desk}
-use Rattle.card.proofs.Turned.{admin-turns}
+use Rattle.card.proofs.Turned.{admin-turns-both}
 use Rattle.card.proofs.Present.{present-by, gone-by, selectable-has, selectable-there}
 use Rattle.card.proofs.Listeners.{set-is, codes-by}
 
@@ -152,7 +152,7 @@ module _ (c : Card) (left : Left c) (n : ℕ) (on : Bool) {there : Bool} (found 
       (sets ∙ selectable-turned c left n on is-here)
       (registered-form c left ∙ table-alike 20 _ _ (λ e k. sym (registered-same c left n on is-here e)))
       (control-form c left)
-      (both-desk c left u (rw (tables-are on) at (admin-turns (m .tables) (locking on n)) ∙ sym (ap₂ menuAndEvents menu-is events-are)) mx my)
+      (both-desk c left u (rw (tables-are on) at (admin-turns-both (m .tables) (locking on n)) ∙ sym (ap₂ menuAndEvents menu-is events-are)) mx my)
       ∙ ap stored (sym (after-by m (admin (locking on n)) refusal-is still (ap (tablesBy m (admin (locking on n))) z ∙ tables-are on))))
       e
 

@@ -40,7 +40,7 @@ use Rattle.card.proofs.Left.{left-sound, left-bounds}
 use Rattle.card.proofs.Replied.{replies, tablesBy, after-by, refused-stays, made-form}
 use Rattle.card.proofs.Present.{found-by, grant-is, made-is, selectable-there}
 use Rattle.card.proofs.Marks.{onlyMenu, MenuMark}
-use Rattle.card.proofs.Turned.{entry-turns}
+use Rattle.card.proofs.Turned.{new-entry-turns-menu}
 use Rattle.card.proofs.EntryRows.{withEntries, entry-card}
 
 -- the rows with the new one, and its identifier
@@ -138,7 +138,7 @@ module _ (c : Card) (left : Left c) (n : ℕ) (help : Bool) (text : List ℕ) {t
           refl refl
           (mm ∙ ap₂ (λ (h : List ℕ) (m : ℕ). madeWith h n m) (made-form c left) one ∙ made-more l n here)
           (ap (λ (h : Added). h .rows) both)
-          (entry-turns t (sound .numbers-apart) n here help text ∙ ap onlyMenu (sym (tu ∙ selectable-there c left n here)))
+          (new-entry-turns-menu t (sound .numbers-apart) n here help text ∙ ap onlyMenu (sym (tu ∙ selectable-there c left n here)))
           y
           ∙ ap stored (sym (after-by (view c) (entry (newEntry n help text)) is-new refl (ap (tablesBy (view c) (entry (newEntry n help text))) z))))
           (gives-number (λ h. ii ∙ ap (λ (h : Added). h .identifier) both) says)

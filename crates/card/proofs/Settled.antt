@@ -39,7 +39,7 @@ use Rattle.card.specs.View.{view, stored, Left}
 use Rattle.card.specs.Replies.{replied}
 use Rattle.card.proofs.Marks.{quiet-desk}
 use Rattle.card.proofs.Replied.{replies, tablesBy, after-by, next-card, selectable-form, registered-form, control-form}
-use Rattle.card.proofs.Turned.{settled-turns}
+use Rattle.card.proofs.Turned.{settled-quiet}
 use Rattle.card.proofs.Calling.{answers}
 
 module _ (c : Card) (left : Left c) where
@@ -89,7 +89,7 @@ module _ (c : Card) (left : Left c) where
   card-after zero =
       next-card c left (withApplets (m .tables) (map usedUp l)) (roll-used l) (made-used l) refl refl
       (selectable-form c left ∙ sym (selectable-used l)) registered-less (control-form c left)
-      (quiet-desk c left _ (settled-turns (m .tables)))
+      (quiet-desk c left _ (settled-quiet (m .tables)))
   card-after (suc r) =
       rw (ne-eqb (suc r) 0 (λ z. omega arith))
       (next-card c left (m .tables) refl refl refl refl

@@ -28,7 +28,7 @@ use Rattle.rules.specs.Held.{storedAnswer}
 use Rattle.card.proofs.Left.{left-form}
 use Rattle.card.proofs.Marks.{quiet-desk}
 use Rattle.card.proofs.Replied.{replies, card-is, roll-form, selectable-form, registered-form, made-form, control-form, rows-form}
-use Rattle.card.proofs.Turned.{timers-turn}
+use Rattle.card.proofs.Turned.{timers-quiet}
 use Rattle.card.proofs.Present.{gone-by, grant-is, low-is, high-is}
 
 -- the card with another bank
@@ -49,7 +49,7 @@ module _ (c : Card) (l : Left c) where
       let u = withTimers (m .tables) k in
       card-is (record { tables = u; desk = marked (m .tables) u (m .desk) })
       (roll-form c l) (selectable-form c l) (registered-form c l) (made-form c l) (control-form c l) (rows-form c l) refl
-      (quiet-desk c l u (timers-turn (m .tables) k))
+      (quiet-desk c l u (timers-quiet (m .tables) k))
 
   module _ (n : ℕ) {there : Bool} (found : there ≡ has? (c .roll .present) n) where
     gone : absent (m .tables) n ≡ not there

@@ -20,33 +20,33 @@ use Rattle.card.proofs.Marks.{menuAndEvents, onlyMenu, onlyEvents}
 
 module _ (t : Tables) where
   -- NOTHING: allocate and release, install, settled
-  pub timers-turn : (k : List ℕ) → changes t (withTimers t k) ≡ nothingDue
+  pub timers-quiet : (k : List ℕ) → changes t (withTimers t k) ≡ nothingDue
   unfolding changes selectable
-  timers-turn k = rw (kept-menu t (withTimers t k) refl (λ o. refl), timers-events t k) refl
+  timers-quiet k = rw (kept-menu t (withTimers t k) refl (λ o. refl), timers-events t k) refl
 
-  pub install-turns : NumbersApart t → (n : ℕ) (q : Request) → hasEnabledRow n (t .rows) ≡ false → changes t (adminTables t (install n q)) ≡ nothingDue
+  pub install-quiet : NumbersApart t → (n : ℕ) (q : Request) → hasEnabledRow n (t .rows) ≡ false → changes t (adminTables t (install n q)) ≡ nothingDue
   unfolding changes adminTables
-  install-turns apart n q none = rw (install-menu t apart n q none, install-events t n q) refl
+  install-quiet apart n q none = rw (install-menu t apart n q none, install-events t n q) refl
 
-  pub settled-turns : changes t (withApplets t (map usedUp (t .applets))) ≡ nothingDue
+  pub settled-quiet : changes t (withApplets t (map usedUp (t .applets))) ≡ nothingDue
   unfolding changes
-  settled-turns = rw (settled-menu t, settled-events t) refl
+  settled-quiet = rw (settled-menu t, settled-events t) refl
 
   -- THE MENU ONLY: calls about entries
-  pub rows-turn : (rows : List Row) → changes t (withRows t rows) ≡ onlyMenu (menuChanges t (withRows t rows))
+  pub rows-turn-menu : (rows : List Row) → changes t (withRows t rows) ≡ onlyMenu (menuChanges t (withRows t rows))
   unfolding changes
-  rows-turn rows = rw (rows-events t rows) refl
+  rows-turn-menu rows = rw (rows-events t rows) refl
 
-  pub entry-turns : NumbersApart t → (n : ℕ) → present t n ≡ true → (help : Bool) (text : List ℕ) → changes t (entryTables t (newEntry n help text)) ≡ onlyMenu (applet t n .selectable)
+  pub new-entry-turns-menu : NumbersApart t → (n : ℕ) → present t n ≡ true → (help : Bool) (text : List ℕ) → changes t (entryTables t (newEntry n help text)) ≡ onlyMenu (applet t n .selectable)
   unfolding changes entryTables
-  entry-turns apart n here help text = rw (entry-menu t apart n here help text, entry-events t n (withEntry (applet t n) help text (t .rows))) refl
+  new-entry-turns-menu apart n here help text = rw (entry-menu t apart n here help text, entry-events t n (withEntry (applet t n) help text (t .rows))) refl
 
   -- THE EVENT LIST ONLY: set and clear event
-  pub event-turns : (n p : ℕ) (on : Bool) → changes t (withRegistration t n p on) ≡ onlyEvents (eventsChange t (withRegistration t n p on))
+  pub registration-turns-events : (n p : ℕ) (on : Bool) → changes t (withRegistration t n p on) ≡ onlyEvents (eventsChange t (withRegistration t n p on))
   unfolding changes register
-  event-turns n p on = rw (register-menu t n (Event p) on) refl
+  registration-turns-events n p on = rw (register-menu t n (Event p) on) refl
 
   -- BOTH: lock, unlock and delete
-  pub admin-turns : (x : AdminCall) → changes t (adminTables t x) ≡ menuAndEvents (menuChanges t (adminTables t x)) (eventsChange t (adminTables t x))
+  pub admin-turns-both : (x : AdminCall) → changes t (adminTables t x) ≡ menuAndEvents (menuChanges t (adminTables t x)) (eventsChange t (adminTables t x))
   unfolding changes
-  admin-turns x = refl
+  admin-turns-both x = refl
