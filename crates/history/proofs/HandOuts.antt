@@ -1,21 +1,43 @@
 -- One hand-out, and the response to it: when it is accepted, what it writes and what is due afterwards.
 -- Assumes nothing.
 use Prim.Native.Nat.{ℕ, _≤_}
+use native.Mathlib.Omega.{arith}
 use mathlib.Core.Path.{_≡_, refl, ap, _∙_}
-use mathlib.Core.Bool.{Bool, true, false, not}
-use mathlib.Core.List.{List}
-use lib.ListN.{length}
+use mathlib.Core.Bool.{Bool, true, false, not, false≢true}
+use mathlib.Core.List.{List, [], _∷_}
+use lib.ListN.{length, drop, length-drop}
 use lib.Seq.{take-append-seam}
 use borrow.Author.Tests.{le-ltb}
 use Rattle.lists.specs.Tests.{if_then_else_}
+use Rattle.lists.specs.Lists.{Every, keep, empty?}
+use Rattle.rules.specs.declared.Due.{Due}
 use Rattle.rules.specs.Holds.{Desk, Model, nothingDue}
-use Rattle.rules.specs.Desk.{withMarks, withOutstanding, menu, eventList, handedOut, dueCommand, withHandedOut}
+use Rattle.rules.specs.Desk.{withOutstanding, isDue, handedOut, dueMatters, dueCommand, withFirst, withHandedOut}
 use Rattle.rules.specs.Calls.{Outcome, proactive, systemCommand, response}
 use Rattle.rules.specs.Refusals.{firstHolding, proactiveLines, lines, refusal}
 use Rattle.rules.specs.Step.{proactiveDesk, deskAfter, tablesAfter, changed, answer, front, written, outcome, step}
-use Rattle.rules.proofs.DueMarks.{marked-same, first-handed}
+use Rattle.rules.proofs.DueMarks.{marked-same}
 use Rattle.history.specs.Handed.{seen, handed}
-use Rattle.history.specs.OnScreen.{leftDue, command}
+use Rattle.history.specs.OnScreen.{command, handOuts}
+
+-- handing out leaves the rest due, and what leaves nothing to hand out is nothing due
+rest-due : (d : Desk) → dueMatters (withHandedOut d .due) ≡ drop 1 (dueMatters (d .due))
+unfolding withHandedOut withFirst handedOut dueMatters keep isDue
+rest-due d = go (d .due .menu) (d .due .events) refl refl
+  where
+    go : (m e : Bool) → d .due .menu ≡ m → d .due .events ≡ e → dueMatters (withHandedOut d .due) ≡ drop 1 (dueMatters (d .due))
+    go true e p q = rw (p, q) refl
+    go false true p q = rw (p, q) refl
+    go false false p q = rw (p, q) refl
+
+none-due : (d : Due) → dueMatters d ≡ [] → d ≡ nothingDue
+unfolding dueMatters keep isDue empty?
+none-due d e = go (d .menu) (d .events) refl refl
+  where
+    go : (m v : Bool) → d .menu ≡ m → d .events ≡ v → d ≡ nothingDue
+    go true v p q = absurd (false≢true (rw p at (ap empty? e)))
+    go false true p q = absurd (false≢true (rw (p, q) at (ap empty? e)))
+    go false false p q = rw (p, q) refl
 
 module _ (m : Model) (buffer : List ℕ) where
   -- it is accepted if nothing is outstanding and the buffer has room
@@ -35,27 +57,20 @@ module _ (m : Model) (buffer : List ℕ) where
         ap (λ (o : Outcome). handed (seen (systemCommand buffer) o)) hands-out
         ∙ take-append-seam (dueCommand (m .tables) (m .desk)) _
 
-    -- .. and clears its mark
-    pub due-left : step m (systemCommand buffer) .after .desk .due ≡ leftDue (m .desk .due)
+    -- .. nothing, where nothing is due, and leaves the card ..
+    pub nothing-due : dueMatters (m .desk .due) ≡ [] → step m (systemCommand buffer) .after ≡ m
+    unfolding outcome changed tablesAfter deskAfter withHandedOut withFirst
+    nothing-due e =
+        ap (λ (o : Outcome). o .after) hands-out
+        ∙ ap (λ (d : Desk). record { tables = m .tables; desk = d }) (marked-same (m .tables) (withHandedOut (m .desk)) ∙ ap (withFirst (m .desk)) e)
+
+    -- .. and leaves the others due
+    pub due-left : dueMatters (step m (systemCommand buffer) .after .desk .due) ≡ drop 1 (dueMatters (m .desk .due))
     unfolding outcome changed tablesAfter deskAfter
     due-left =
-        ap (λ (o : Outcome). o .after .desk .due) hands-out
-        ∙ ap (λ (d : Desk). d .due) (marked-same (m .tables) (withHandedOut (m .desk)) ∙ first-handed (m .desk))
-        ∙ cleared (m .desk) (m .desk .due .menu) (m .desk .due .events) refl refl
-      where
-        cleared : (d : Desk) (a b : Bool) → d .due .menu ≡ a → d .due .events ≡ b
-            → (if a then withMarks d true (handedOut menu (d .due)) else if b then withMarks d true (handedOut eventList (d .due)) else d) .due
-            ≡ (if a then record { menu = false; events = d .due .events } else nothingDue)
-        cleared d true b p q = unfold handedOut in refl
-        cleared d false true p q = unfold handedOut in rw p refl
-        cleared d false false p q = rw (p, q) refl
-
-    -- nothing due leaves the card
-    pub nothing-due : m .desk .due .menu ≡ false → m .desk .due .events ≡ false → step m (systemCommand buffer) .after ≡ m
-    unfolding outcome changed tablesAfter deskAfter
-    nothing-due e f =
-        ap (λ (o : Outcome). o .after) hands-out
-        ∙ ap (λ (d : Desk). record { tables = m .tables; desk = d }) (marked-same (m .tables) (withHandedOut (m .desk)) ∙ first-handed (m .desk) ∙ rw (e, f) refl)
+        ap (λ (o : Outcome). dueMatters (o .after .desk .due)) hands-out
+        ∙ ap (λ (d : Desk). dueMatters (d .due)) (marked-same (m .tables) (withHandedOut (m .desk)))
+        ∙ rest-due (m .desk)
 
 -- a response, accepted or not, leaves nothing outstanding, and due what was due
 pub responded : (m : Model)
@@ -67,3 +82,17 @@ responded m = go (m .desk .outstanding) refl
         → (outcome (if not b then 19 else 0) m (proactive response) .after .desk .outstanding ≡ false) × (outcome (if not b then 19 else 0) m (proactive response) .after .desk .due ≡ m .desk .due)
     go true e = unfold outcome changed tablesAfter deskAfter proactiveDesk in (ap (λ (d : Desk). d .outstanding) (marked-same (m .tables) (withOutstanding false (m .desk))), ap (λ (d : Desk). d .due) (marked-same (m .tables) (withOutstanding false (m .desk))))
     go false e = unfold outcome in (e, refl)
+
+-- as many as matters are due, each followed by its response, leave nothing due
+pub mended : (m : Model) (buffers : List (List ℕ)) → m .desk .outstanding ≡ false → Every (λ (b : List ℕ). 256 ≤ length b) buffers
+    → length (dueMatters (m .desk .due)) ≤ length buffers → handOuts buffers m .desk .due ≡ nothingDue
+unfolding handOuts Every
+mended m [] idle room few = none-due (m .desk .due) (none (dueMatters (m .desk .due)) few)
+  where
+    none : {A : Type 0} (l : List A) → length l ≤ 0 → l ≡ []
+    none [] h = refl
+    none (x ∷ l) h = absurd (omega arith)
+mended m (b ∷ l) idle (fits, room) few =
+    let x = step m (systemCommand b) .after in
+    let left : dueMatters (step x (proactive response) .after .desk .due) ≡ drop 1 (dueMatters (m .desk .due)) = ap dueMatters (responded x .1) ∙ due-left m b (taken m b idle fits) in
+    mended (step x (proactive response) .after) l (responded x .0) room (omega (arith, ap length left, length-drop 1 (dueMatters (m .desk .due))))

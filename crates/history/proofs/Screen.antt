@@ -1,33 +1,32 @@
 -- THE SCREEN IS RIGHT after any sequence of calls on a fresh card, refused ones included. What the terminal was handed is looked back
 -- from the calls, their answers and what they left in the lent buffers. Assumes nothing.
 use Prim.Native.Nat.{ℕ, _≤_}
-use mathlib.Core.Path.{_≡_, refl, sym, ap, _∙_}
+use mathlib.Core.Path.{_≡_, sym, ap, _∙_}
 use mathlib.Core.Bool.{Bool, true, false}
-use mathlib.Core.List.{List, [], map}
+use mathlib.Core.List.{List, map}
 use lib.ListN.{length}
-use Rattle.lists.specs.Tests.{if_then_else_}
 use Rattle.lists.specs.Lists.{count, keep}
 use Rattle.lists.proofs.Counts.{count-map}
 use Rattle.lists.proofs.Times.{some-alike}
-use Rattle.rules.specs.Holds.{Row, Model, document, nothingDue}
+use Rattle.rules.specs.Holds.{Row, Model, document}
 use Rattle.rules.specs.Commands.{Menu, shownMenu, shownEvents, menuOf, menuBytes, eventBytes, isMenu}
-use Rattle.rules.specs.Calls.{Call, Answer, proactive, systemCommand, send, response}
+use Rattle.rules.specs.Desk.{Matter, menu, eventList, commandFor, firstCommand, dueCommand}
+use Rattle.rules.specs.Calls.{Call, Answer, proactive, systemCommand, send}
 use Rattle.rules.specs.Refusals.{refusal}
 use Rattle.rules.specs.Step.{step}
 use Rattle.rules.specs.Beside.{ReadOutcome, menuReader}
 use Rattle.rules.specs.Runs.{cardAfter}
-use Rattle.rules.proofs.DueMarks.{first-due}
 use Rattle.history.specs.Histories.{History}
 use Rattle.history.specs.Named.{rowsNamed, inSession, isOutstanding}
 use Rattle.history.specs.Handed.{titleOf, Seen, seenOf, handedSince, lastMenu, screen, codesIn, isEventList, codesHanded, isShown, codesNamed}
-use Rattle.history.specs.OnScreen.{itemOf, leftDue, command, MenuRight, HandsOut, ScreenRight}
+use Rattle.history.specs.OnScreen.{itemOf, wanted, command, MenuRight, HandsOut, ScreenRight}
 use Rattle.history.proofs.Agrees.{plain, ground}
 use Rattle.history.proofs.Answered.{passes, answers}
 use Rattle.history.proofs.Promises.{past, agree, sound, from-1-to-8, session-is-named, outstanding-is-named}
 use Rattle.history.proofs.Stands.{shown-read}
 use Rattle.history.proofs.Handing.{codes-back, right}
 use Rattle.history.proofs.Shown.{rows-shown, rows-wanted, codes-shown}
-use Rattle.history.proofs.HandOuts.{taken, handed-due, due-left, responded}
+use Rattle.history.proofs.HandOuts.{taken, handed-due, nothing-due, due-left, mended}
 use Rattle.history.proofs.Sent.{sends-no-menu, sends-no-list}
 
 module _ (title : List ℕ) (calls : List Call) where
@@ -45,8 +44,8 @@ module _ (title : List ℕ) (calls : List Call) where
   abbrev rows : List Row
   rows = keep (isShown h) (m .tables .rows)
 
-  wanted : (p : Row → Bool) → count p rows ≡ count p (keep (isShown h) (rowsNamed h))
-  wanted = rows-wanted (m .tables) h (sound title calls) (agree title calls .tables) (from-1-to-8 title calls)
+  as-wanted : (p : Row → Bool) → count p rows ≡ count p (keep (isShown h) (rowsNamed h))
+  as-wanted = rows-wanted (m .tables) h (sound title calls) (agree title calls .tables) (from-1-to-8 title calls)
 
   -- the card's menu command says these rows under the card's title, and its event list the codes
   card-shows : menuOf (m .desk .title) (shownMenu (m .tables)) ≡ menuOf (titleOf title) rows
@@ -67,10 +66,10 @@ module _ (title : List ℕ) (calls : List Call) where
         reads = ap (λ (o : ReadOutcome). o .refusal) read;
         title = ap (λ (o : ReadOutcome). o .menu .title) read;
         in-order = items;
-        named = λ p. ap (count p) items ∙ count-map p itemOf rows ∙ wanted (λ r. p (itemOf r)) ∙ sym (count-map p itemOf (keep (isShown h) (rowsNamed h)));
+        named = λ p. ap (count p) items ∙ count-map p itemOf rows ∙ as-wanted (λ r. p (itemOf r)) ∙ sym (count-map p itemOf (keep (isShown h) (rowsNamed h)));
         help =
             ap (λ (o : ReadOutcome). o .menu .help) read
-            ∙ some-alike (λ (r : Row). r .help) rows (keep (isShown h) (rowsNamed h)) (wanted (λ r. r .help));
+            ∙ some-alike (λ (r : Row). r .help) rows (keep (isShown h) (rowsNamed h)) (as-wanted (λ r. r .help));
       }
     where
       read : menuReader document (lastMenu (titleOf title) (handedSince l)) ≡ record { refusal = 0; menu = menuOf (titleOf title) rows }
@@ -93,35 +92,37 @@ module _ (title : List ℕ) (calls : List Call) where
       let q : refusal m (proactive (send n bytes)) ≡ 0 = passes m (proactive (send n bytes)) ok in
       (sends-no-menu m n bytes q, sends-no-list m n bytes q)
 
+  card-wants : (x : Matter) → commandFor (m .tables) (m .desk .title) x ≡ wanted title (m .tables .rows) h x
+  unfolding commandFor wanted
+  card-wants menu = ap menuBytes card-shows
+  card-wants eventList = ap eventBytes card-codes
+
   hands-out : (buffer : List ℕ) → step m (systemCommand buffer) .answer .refusal ≡ 0 → HandsOut title m h buffer
+  unfolding dueCommand firstCommand
   hands-out buffer ok =
       record {
-        menu-first = λ e. ap (menuReader document) (the-due ∙ rw e refl) ∙ card-reads;
-        then-events = λ e f. the-due ∙ rw (e, f) (ap eventBytes card-codes);
-        else-nothing = λ e f. the-due ∙ rw (e, f) refl;
-        clears = due-left m buffer (passes m (systemCommand buffer) ok);
+        first-due = λ x l e. the-due ∙ ap (firstCommand (m .tables) (m .desk .title)) e ∙ card-wants x;
+        nothing-due = λ e. (the-due ∙ ap (firstCommand (m .tables) (m .desk .title)) e, nothing-due m buffer (passes m (systemCommand buffer) ok) e);
+        leaves = due-left m buffer (passes m (systemCommand buffer) ok);
       }
     where
-      the-due : command m buffer ≡ (if m .desk .due .menu then menuBytes (menuOf (m .desk .title) (shownMenu (m .tables))) else if m .desk .due .events then eventBytes (shownEvents (m .tables)) else [])
-      the-due = handed-due m buffer (passes m (systemCommand buffer) ok) ∙ first-due (m .tables) (m .desk)
+      the-due : command m buffer ≡ dueCommand (m .tables) (m .desk)
+      the-due = handed-due m buffer (passes m (systemCommand buffer) ok)
 
   accepts : (buffer : List ℕ) → isOutstanding h ≡ false → 256 ≤ length buffer → step m (systemCommand buffer) .answer .refusal ≡ 0
   accepts buffer idle room =
       ap (λ (a : Answer). a .refusal) (answers m (systemCommand buffer) (taken m buffer (outstanding-is-named title calls ∙ idle) room))
       ∙ plain m (systemCommand buffer)
 
-  two-enough : (buffer other : List ℕ) → isOutstanding h ≡ false → 256 ≤ length buffer → 256 ≤ length other
-      → step (step (step m (systemCommand buffer) .after) (proactive response) .after) (systemCommand other) .after .desk .due ≡ nothingDue
-  two-enough buffer other idle room space =
-      let x = step m (systemCommand buffer) .after in
-      let y = step x (proactive response) .after in
-      due-left y other (taken y other (responded x .0) space)
-      ∙ ap leftDue (responded x .1 ∙ due-left m buffer (taken m buffer (outstanding-is-named title calls ∙ idle) room))
-      ∙ twice (m .desk .due .menu)
-    where
-      twice : (b : Bool) → leftDue (if b then record { menu = false; events = m .desk .due .events } else nothingDue) ≡ nothingDue
-      twice true = refl
-      twice false = refl
-
   pub screen-is-right : ScreenRight title l m h
-  screen-is-right = record { menu = menu-right; codes = codes-right; sent = sends-neither; hand-out = hands-out; accepts = accepts; two-are-enough = two-enough }
+  unfolding wanted
+  screen-is-right =
+      record {
+        menu = menu-right;
+        codes = codes-right;
+        sent = sends-neither;
+        read-back = sym (ap (λ (x : Menu). menuReader document (menuBytes x)) card-shows) ∙ card-reads;
+        hand-out = hands-out;
+        accepts = accepts;
+        mends = λ buffers idle room few. mended m buffers (outstanding-is-named title calls ∙ idle) room few;
+      }

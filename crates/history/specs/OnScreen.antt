@@ -2,13 +2,13 @@
 use Prim.Native.Nat.{ℕ, _≤_}
 use mathlib.Core.Path.{_≡_}
 use mathlib.Core.Bool.{Bool, true, false}
-use mathlib.Core.List.{List, [], map}
-use lib.ListN.{length}
-use Rattle.lists.specs.Tests.{if_then_else_}
-use Rattle.lists.specs.Lists.{some?, keep, count}
-use Rattle.rules.specs.declared.Due.{Due}
+use mathlib.Core.List.{List, [], _∷_, map}
+use lib.ListN.{length, drop}
+use Rattle.lists.specs.Lists.{Every, some?, keep, count}
 use Rattle.rules.specs.Holds.{Row, Model, document, nothingDue}
-use Rattle.rules.specs.Commands.{Item, menuOf, eventBytes, isMenu}
+use Rattle.rules.specs.Commands.{Item, menuOf, menuBytes, eventBytes, isMenu}
+use Rattle.rules.specs.Desk as desk
+use Rattle.rules.specs.Desk.{Matter, dueMatters}
 use Rattle.rules.specs.Calls.{proactive, systemCommand, send, response}
 use Rattle.rules.specs.Step.{step}
 use Rattle.rules.specs.Beside.{menuReader}
@@ -33,9 +33,10 @@ pub record MenuRight (asked : List ℕ) (l : List Seen) (m : Model) (h : History
   -- .. with the help mark exactly if one of them offers help.
   pub help : screen (titleOf asked) l .help ≡ some? (λ (r : Row). r .help) (keep (isShown h) (rowsNamed h))
 
--- what a hand-out leaves due: the menu's mark is cleared, or else that of the event list
-abbrev pub leftDue : Due → Due
-leftDue due = if due .menu then record { menu = false; events = due .events } else nothingDue
+-- the command that the history wants for a matter, with these rows of the menu list
+unfoldable pub wanted : (asked : List ℕ) → List Row → History → Matter → List ℕ
+wanted asked rows h desk.menu = menuBytes (menuOf (titleOf asked) (keep (isShown h) rows))
+wanted asked rows h desk.eventList = eventBytes (codesNamed h)
 
 -- what a hand-out on this card hands out
 abbrev pub command : Model → (buffer : List ℕ) → List ℕ
@@ -43,15 +44,17 @@ command m buffer = handed (seen (systemCommand buffer) (step m (systemCommand bu
 
 -- A hand-out ..
 pub record HandsOut (asked : List ℕ) (m : Model) (h : History) (buffer : List ℕ) : Type 0 where
-  -- .. hands out the menu first, if it is due: read back, it is the one that the history wants on the screen ..
-  pub menu-first : m .desk .due .menu ≡ true
-      → menuReader document (command m buffer) ≡ record { refusal = 0; menu = menuOf (titleOf asked) (keep (isShown h) (m .tables .rows)) }
-  -- .. then the event list, if that is due, with the codes that the history wants ..
-  pub then-events : m .desk .due .menu ≡ false → m .desk .due .events ≡ true → command m buffer ≡ eventBytes (codesNamed h)
-  -- .. else nothing ..
-  pub else-nothing : m .desk .due .menu ≡ false → m .desk .due .events ≡ false → command m buffer ≡ []
-  -- .. and clears its mark.
-  pub clears : step m (systemCommand buffer) .after .desk .due ≡ leftDue (m .desk .due)
+  -- .. of the matters that are due, the menu first and then the event list, hands out the first, as the history wants it ..
+  pub first-due : (x : Matter) (l : List Matter) → dueMatters (m .desk .due) ≡ x ∷ l → command m buffer ≡ wanted asked (m .tables .rows) h x
+  -- .. or nothing, if nothing is due, and the card is as it was ..
+  pub nothing-due : dueMatters (m .desk .due) ≡ [] → (command m buffer ≡ []) × (step m (systemCommand buffer) .after ≡ m)
+  -- .. and leaves the others due.
+  pub leaves : dueMatters (step m (systemCommand buffer) .after .desk .due) ≡ drop 1 (dueMatters (m .desk .due))
+
+-- the card after hand-outs into these buffers, each followed by its response
+unfoldable pub handOuts : (buffers : List (List ℕ)) → Model → Model
+handOuts [] m = m
+handOuts (b ∷ l) m = handOuts l (step (step m (systemCommand b) .after) (proactive response) .after)
 
 pub record ScreenRight (asked : List ℕ) (l : List Seen) (m : Model) (h : History) : Type 0 where
   -- IN A SESSION, UNLESS THE MENU IS DUE, the menu on the screen is right.
@@ -62,11 +65,12 @@ pub record ScreenRight (asked : List ℕ) (l : List Seen) (m : Model) (h : Histo
   -- NO APPLET CHANGES THEM: what an accepted send gives the terminal is neither a menu nor an event list.
   pub sent : (n : ℕ) (bytes : List ℕ) → step m (proactive (send n bytes)) .answer .refusal ≡ 0
       → (isMenu document bytes ≡ false) × (isEventList bytes ≡ false)
+  -- The menu that the history wants can be read back.
+  pub read-back : menuReader document (wanted asked (m .tables .rows) h desk.menu) ≡ record { refusal = 0; menu = menuOf (titleOf asked) (keep (isShown h) (m .tables .rows)) }
   -- AN ACCEPTED HAND-OUT mends what is due, the menu first.
   pub hand-out : (buffer : List ℕ) → step m (systemCommand buffer) .answer .refusal ≡ 0 → HandsOut asked m h buffer
   -- It is accepted if nothing is outstanding and the buffer has 256 bytes.
   pub accepts : (buffer : List ℕ) → isOutstanding h ≡ false → 256 ≤ length buffer → step m (systemCommand buffer) .answer .refusal ≡ 0
-  -- WHAT IS DUE IS AT MOST TWO HAND-OUTS AWAY: with nothing outstanding and buffers of 256 bytes, a hand-out, its response and one
-  -- hand-out more leave nothing due.
-  pub two-are-enough : (buffer other : List ℕ) → isOutstanding h ≡ false → 256 ≤ length buffer → 256 ≤ length other
-      → step (step (step m (systemCommand buffer) .after) (proactive response) .after) (systemCommand other) .after .desk .due ≡ nothingDue
+  -- AS MANY HAND-OUTS AS MATTERS ARE DUE, each followed by its response, leave nothing due: with nothing outstanding and buffers of 256 bytes.
+  pub mends : (buffers : List (List ℕ)) → isOutstanding h ≡ false → Every (λ (b : List ℕ). 256 ≤ length b) buffers
+      → length (dueMatters (m .desk .due)) ≤ length buffers → handOuts buffers m .desk .due ≡ nothingDue

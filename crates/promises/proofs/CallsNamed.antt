@@ -15,34 +15,32 @@ use Rattle.rules.specs.Events.{handlerAvailable}
 use Rattle.rules.specs.Applets.{applet}
 use Rattle.rules.specs.Envelopes.{envelopeOf}
 use Rattle.rules.specs.Rows.{nextPair}
-use Rattle.rules.specs.Commands.{Menu, menuOf, menuBytes}
+use Rattle.rules.specs.Commands.{Menu, menuOf}
 use Rattle.rules.specs.Arrivals.{Arrival, envelopeMarks, otherMarks}
 use Rattle.rules.specs.Calls.{Call, Answer, Outcome, entry, settled, systemCommand, newEntry}
-use Rattle.rules.specs.Desk.{dueCommand, withProfile}
+use Rattle.rules.specs.Desk.{Matter, menu, dueMatters, dueCommand, withProfile}
 use Rattle.rules.specs.Step.{arrivalAnswer, arrivalDesk, answer, written, front, outcome, step}
 use Rattle.rules.specs.Beside.{ReadOutcome, menuReader}
 use Rattle.rules.specs.Runs.{cardAfter}
 use Rattle.rules.proofs.OnRefusal.{refused}
-use Rattle.rules.proofs.DueMarks.{first-due}
 use Rattle.card.specs.declared.Card.{Card}
 use Rattle.card.specs.View.{stored}
 use Rattle.card.proofs.Left.{after-seen}
 use Rattle.history.specs.Named.{isSelectable, hasOneShot}
 use Rattle.history.specs.Called.{isNamed, isDue, arrivalIn}
 use Rattle.history.specs.Handed.{Seen, seen, seenOf, handed, titleOf, isShown}
-use Rattle.history.specs.OnScreen.{command, ScreenRight}
+use Rattle.history.specs.OnScreen.{wanted, command, ScreenRight}
 use Rattle.history.proofs.Answered.{passes, answers, refuses}
 use Rattle.history.proofs.OneShot.{Each, waits, only-settled-arrives-so}
 use Rattle.history.proofs.Promises as runs
-use Rattle.history.proofs.DeskNamed.{title-is-the-one-given}
-use Rattle.history.proofs.HandOuts.{handed-due, nothing-due}
+use Rattle.history.proofs.HandOuts.{handed-due}
 use Rattle.history.proofs.Screen.{screen-is-right}
 use Rattle.history.proofs.MenuOrder.{AlwaysInUse, rows-keep-their-order, new-row-at-its-place, new-row-last-for-0, new-row-last-behind-all}
 use Rattle.promises.specs.Watched.{calledBy}
 use Rattle.promises.specs.Promised.{Judged, Handlers, Answers, positionOf, newRow, Orders, HandsOut, Shows}
 use Rattle.promises.proofs.SameRuns.{next-says}
 use Rattle.promises.proofs.DemandOne.{answer-is-the-lowest}
-use Rattle.promises.proofs.TablesNamed.{m, h, c, rows-are, shown-is, holds}
+use Rattle.promises.proofs.TablesNamed.{m, h, c, rows-are, holds}
 
 -- what the menu reader answers with a menu
 abbrev readAs : Menu → ReadOutcome
@@ -183,6 +181,9 @@ module _ (title : List ℕ) (calls : List Call) (x : Call) where
       right : ScreenRight title (seenOf title calls) (m title calls) (h title calls)
       right = screen-is-right title calls
 
+      wanted-of : (y : Matter) → wanted title (m title calls .tables .rows) (h title calls) y ≡ wanted title (viewRows (c title calls .rows)) (h title calls) y
+      wanted-of y = sym (ap (λ (r : List Row). wanted title r (h title calls) y) (rows-are title calls))
+
       hand-out : (buffer : List ℕ) → x ≡ systemCommand buffer → step (m title calls) (systemCommand buffer) .answer .refusal ≡ 0
           → HandsOut title (h title calls) (c title calls) s k buffer
       hand-out buffer e ok =
@@ -190,13 +191,9 @@ module _ (title : List ℕ) (calls : List Call) (x : Call) where
           let due = handed-due (m title calls) buffer (passes (m title calls) (systemCommand buffer) ok) in
           let by : handed s ≡ command (m title calls) buffer = ap (λ (y : Call). handed (seen y (step (m title calls) y))) e in
           record {
-            menu-first = λ q.
-                by ∙ due ∙ first-due (m title calls .tables) (m title calls .desk) ∙ rw q refl
-                ∙ ap₂ (λ (t : List ℕ) (r : List Row). menuBytes (menuOf t r)) (title-is-the-one-given title calls) (shown-is title calls);
-            read-back = λ q. ap (menuReader document) by ∙ does .menu-first q ∙ sym (ap (λ (r : List Row). readAs (menuOf (titleOf title) (keep (isShown (h title calls)) r))) (rows-are title calls));
-            then-events = λ p q. by ∙ does .then-events p q;
-            else-nothing = λ p q.
-                (by ∙ does .else-nothing p q, ap (λ (y : Call). stored (step (m title calls) y .after)) e ∙ ap stored (nothing-due (m title calls) buffer (passes (m title calls) (systemCommand buffer) ok) p q));
+            first-due = λ y l q. by ∙ does .first-due y l q ∙ wanted-of y;
+            read-back = λ l q. ap (menuReader document) (by ∙ does .first-due menu l q) ∙ right .read-back ∙ sym (ap (λ (r : List Row). readAs (menuOf (titleOf title) (keep (isShown (h title calls)) r))) (rows-are title calls));
+            nothing-due = λ q. (by ∙ does .nothing-due q .0, ap (λ (y : Call). stored (step (m title calls) y .after)) e ∙ ap stored (does .nothing-due q .1));
             at-the-front = ap (λ (y : Call). step (m title calls) y .buffer) e ∙ front-so (m title calls) buffer ok ∙ ap (λ (b : List ℕ). front b buffer) (sym (by ∙ due));
-            clears = ap (λ (y : Call). step (m title calls) y .after .desk .due) e ∙ does .clears;
+            leaves = ap (λ (y : Call). dueMatters (step (m title calls) y .after .desk .due)) e ∙ does .leaves;
           }

@@ -1,25 +1,23 @@
 -- THE FINAL THEOREM: what specs/Promised.antt says holds of every card that the public functions have left, and of their calls as they
 -- were seen. Assumes nothing.
 use Prim.Native.Nat.{ℕ}
-use mathlib.Core.Path.{refl, sym, ap, ap₂, subst, _∙_}
+use mathlib.Core.Path.{_≡_, refl, sym, ap, ap₂, subst, _∙_}
 use mathlib.Core.List.{List}
-use Rattle.rules.specs.declared.Due.{Due}
 use Rattle.rules.specs.Holds.{Model}
 use Rattle.rules.specs.Held.{viewRows, viewDesk}
-use Rattle.rules.specs.Calls.{Call, systemCommand}
+use Rattle.rules.specs.Calls.{Call}
 use Rattle.rules.specs.Step.{step}
 use Rattle.rules.specs.Runs.{cardAfter}
 use Rattle.card.specs.declared.Card.{Card}
 use Rattle.card.specs.View.{view}
 use Rattle.card.specs.Replies.{replied}
-use Rattle.history.specs.Named.{isOutstanding}
 use Rattle.history.specs.Handed.{Seen, seen}
-use Rattle.history.proofs.Screen.{screen-is-right}
-use Rattle.promises.specs.Watched.{callsOf, call, Watched, more, callOf}
-use Rattle.promises.specs.Promised.{Taken, Handlers, positionOf, Orders, Shows, OnScreen, Promised}
-use Rattle.promises.proofs.SameRuns.{same-view, watched-left, watched-same, past-is}
+use Rattle.history.specs.OnScreen.{handOuts}
+use Rattle.promises.specs.Watched.{callsOf, call, Next, Watched, more, callOf}
+use Rattle.promises.specs.Promised.{Taken, Handlers, positionOf, Orders, HandedOut, none, then, Shows, OnScreen, Promised}
+use Rattle.promises.proofs.SameRuns.{same-view, watched-left, watched-same}
 use Rattle.promises.proofs.OnScreen as watched
-use Rattle.promises.proofs.TablesNamed.{m, holds}
+use Rattle.promises.proofs.TablesNamed.{holds}
 use Rattle.promises.proofs.CallsNamed.{handlers, judged, orders, shows}
 use Rattle.promises.proofs.Carried.{of-call, holds-of-it, judged-of-it, answers-of-it}
 use Rattle.promises.proofs.FiringOnce.{fires-once}
@@ -29,6 +27,19 @@ use Rattle.promises.proofs.Documented.{room, already}
 taken : (c : Card) (x : Call) → Taken c x
 taken c x = record { seen = _; card = _; next = call x (replied (step (view c) x)) (step (view c) x .buffer) refl refl; call = refl }
 
+-- the card after a call, and after hand-outs, as the rules have it
+next-view : {title : List ℕ} {l : List Seen} {c k : Card} {s : Seen} → Watched title l c → Next c s k → view k ≡ step (view c) (callOf s) .after
+unfolding cardAfter
+next-view {s = s} w n = same-view (watched-same (more n w)) ∙ sym (ap (λ (v : Model). step v (callOf s) .after) (same-view (watched-same w)))
+
+handed-view : {title : List ℕ} {l : List Seen} {c k : Card} {buffers : List (List ℕ)} → Watched title l c → HandedOut c buffers k → view k ≡ handOuts buffers (view c)
+unfolding handOuts
+handed-view w none = refl
+handed-view {c = c} w (then {b = b} {l = l} n e o r q) =
+    let given = next-view w n ∙ ap (λ (y : Call). step (view c) y .after) e in
+    let answered = next-view (more n w) o ∙ ap₂ (λ (v : Model) (y : Call). step v y .after) given r in
+    handed-view (more o (more n w)) q ∙ ap (handOuts l) answered
+
 -- a card that the public functions have left
 module _ {title : List ℕ} {l : List Seen} {c : Card} (w : Watched title l c) where
   on-screen : OnScreen title l c
@@ -37,15 +48,10 @@ module _ {title : List ℕ} {l : List Seen} {c : Card} (w : Watched title l c) w
       record {
         menu = λ e. watched.screen-is-right w .menu (sym (holds-of-it w .session) ∙ e);
         codes = λ e. watched.screen-is-right w .codes (sym (holds-of-it w .session) ∙ e);
-        two-are-enough = λ s t u k j i a b d buffer other p q r idle room space.
-            ap (λ (v : Model). v .desk .due) (same-view (watched-same (more d (more b (more a w)))))
-            ∙ ap (λ (x : Call). due-after x (callOf t) (callOf u)) p
-            ∙ ap₂ (due-after (systemCommand buffer)) q r
-            ∙ screen-is-right title (callsOf l) .two-are-enough buffer other (ap isOutstanding (past-is w) ∙ sym (holds-of-it w .outstanding) ∙ idle) room space;
+        mends = λ buffers k q idle room few.
+            ap (λ (v : Model). v .desk .due) (handed-view w q)
+            ∙ watched.screen-is-right w .mends buffers (sym (holds-of-it w .outstanding) ∙ idle) room few;
       }
-    where
-      due-after : Call → Call → Call → Due
-      due-after x y z = step (step (step (m title (callsOf l)) x .after) y .after) z .after .desk .due
 
   -- THE THEOREM
   pub promised : Promised title l c

@@ -24,6 +24,7 @@ use Rattle.applets.proofs.Numbers.{present-in}
 use Rattle.card.specs.declared.Card.{Card}
 use Rattle.card.specs.View.{stored}
 use Rattle.history.specs.Histories.{History}
+use Rattle.history.specs.OnScreen.{wanted}
 use Rattle.history.specs.Handed.{titleOf, isShown}
 use Rattle.history.proofs.Agrees.{ground}
 use Rattle.history.proofs.Promises as runs
@@ -86,7 +87,7 @@ module _ (title : List ℕ) (calls : List Call) where
         row-count = runs.menu-list-is-as-long title calls;
         apart = λ i. rw rows-are (runs.identifiers-are-different title calls i);
         row = λ i none. rw rows-are (runs.row-is-the-one-named title calls i none);
-        fits = subst (λ (r : List Row). length (menuBytes (menuOf (titleOf title) r)) ≤ 250) shown-is fits-as;
+        fits = unfold wanted in subst (λ (r : List Row). length (menuBytes (menuOf (titleOf title) r)) ≤ 250) shown-is fits-as;
         timer = runs.timer-owner-is-the-one-named title calls;
         one-owner = runs.timer-has-one-owner title calls;
         owned-count = runs.owned-count-is-named title calls;

@@ -20,7 +20,9 @@ use Rattle.rules.specs.Rows.{hasIdentifier, inUse, nextPair}
 use Rattle.rules.specs.Timers.{ownerOf}
 use Rattle.rules.specs.Envelopes.{envelopeOf}
 use Rattle.rules.specs.Arrivals.{choice, help as helpOn, expiry, settledArrival, envelopeMarks, otherMarks}
-use Rattle.rules.specs.Commands.{Menu, menuOf, menuBytes, eventBytes, isMenu}
+use Rattle.rules.specs.Commands.{menuOf, isMenu}
+use Rattle.rules.specs.Desk as desk
+use Rattle.rules.specs.Desk.{Matter, dueMatters}
 use Rattle.rules.specs.Calls.{Call, refusedWith, event, entry, arrival, settled, proactive, systemCommand, askEvent, newEntry, envelope, profile, send, response}
 use Rattle.rules.specs.Refusals.{Line, lines}
 use Rattle.rules.specs.Step.{lent, front}
@@ -32,7 +34,7 @@ use Rattle.history.specs.Deeds.{clears, deletes}
 use Rattle.history.specs.Named.{isPresent, isSelectable, isRegistered, ownsTimer, hasOneShot, ownsControl, oneToEight, timerOwner, controlOwner, rowsNamed, inSession, isOutstanding, profileNamed}
 use Rattle.history.specs.Called.{isChosen, isHelped, isDue, Calls, arrivalIn}
 use Rattle.history.specs.Handed.{Seen, titleOf, handed, isEventList, codesHanded, isShown, codesNamed}
-use Rattle.history.specs.OnScreen.{leftDue, MenuRight}
+use Rattle.history.specs.OnScreen.{wanted, MenuRight}
 use Rattle.promises.specs.Watched.{entriesOf, callOf, refusalOf, calledBy, Next}
 use Rattle.promises.specs.OneShots.{SetAndSettled, FiresOnce}
 use Rattle.promises.specs.DocumentOne.{Room, Already}
@@ -82,22 +84,24 @@ pub record Orders (position : ℕ → ℕ) (before : List Row) (s : Seen) (after
   pub kept : (p : ℕ → Bool) → ((i : ℕ) → p i ≡ true → inUse i after ≡ true) → ((i : ℕ) → p i ≡ true → inUse i before ≡ true)
       → keep p (map (λ (r : Row). r .identifier) after) ≡ keep p (map (λ (r : Row). r .identifier) before)
 
--- SYSTEM COMMANDS. The menu that the history wants: the title, and the enabled rows of selectable applets in the menu list's order.
-abbrev pub menuWanted : (asked : List ℕ) → History → Card → Menu
-menuWanted asked h c = menuOf (titleOf asked) (keep (isShown h) (viewRows (c .rows)))
-
--- An accepted system command ..
+-- SYSTEM COMMANDS. An accepted system command ..
 pub record HandsOut (asked : List ℕ) (h : History) (c : Card) (s : Seen) (k : Card) (buffer : List ℕ) : Type 0 where
-  -- .. hands out the menu first, if it is due: the one that the history wants, and read back it is that very menu ..
-  pub menu-first : c .desk .due .menu ≡ true → handed s ≡ menuBytes (menuWanted asked h c)
-  pub read-back : c .desk .due .menu ≡ true → menuReader document (handed s) ≡ record { refusal = 0; menu = menuWanted asked h c }
-  -- .. then the event list, if that is due, with the codes that the history wants ..
-  pub then-events : c .desk .due .menu ≡ false → c .desk .due .events ≡ true → handed s ≡ eventBytes (codesNamed h)
-  -- .. else nothing, and the card is as it was ..
-  pub else-nothing : c .desk .due .menu ≡ false → c .desk .due .events ≡ false → (handed s ≡ []) × (k ≡ c)
-  -- .. writes it at the front of the buffer, leaves the rest, and clears its mark.
+  -- .. of the matters that are due, the menu first and then the event list, hands out the first: the command that the history wants ..
+  pub first-due : (x : Matter) (l : List Matter) → dueMatters (c .desk .due) ≡ x ∷ l → handed s ≡ wanted asked (viewRows (c .rows)) h x
+  -- .. which for the menu, read back, is the title and the enabled rows of selectable applets in the menu list's order ..
+  pub read-back : (l : List Matter) → dueMatters (c .desk .due) ≡ desk.menu ∷ l
+      → menuReader document (handed s) ≡ record { refusal = 0; menu = menuOf (titleOf asked) (keep (isShown h) (viewRows (c .rows))) }
+  -- .. or nothing, if nothing is due, and the card is as it was ..
+  pub nothing-due : dueMatters (c .desk .due) ≡ [] → (handed s ≡ []) × (k ≡ c)
+  -- .. writes it at the front of the buffer, leaves the rest of that, and leaves the other matters due.
   pub at-the-front : s .buffer ≡ front (handed s) buffer
-  pub clears : k .desk .due ≡ leftDue (c .desk .due)
+  pub leaves : dueMatters (k .desk .due) ≡ drop 1 (dueMatters (c .desk .due))
+
+-- Hand-outs into these buffers, each followed by its response.
+pub data HandedOut : (c : Card) (buffers : List (List ℕ)) (k : Card) → Type 0 where
+  none : {c : Card} → HandedOut c [] c
+  then : {c d e k : Card} {s t : Seen} {b : List ℕ} {l : List (List ℕ)}
+      → Next c s d → callOf s ≡ systemCommand b → Next d t e → callOf t ≡ proactive response → HandedOut e l k → HandedOut c (b ∷ l) k
 
 -- What the calls do to the screen.
 pub record Shows (asked : List ℕ) (h : History) (c : Card) (s : Seen) (k : Card) : Type 0 where
@@ -118,7 +122,7 @@ pub record Holds (asked : List ℕ) (h : History) (c : Card) : Type 0 where
   -- .. and the row with an identifier has the owner, text, help mark and enabled mark that the history names.
   pub row : (i : ℕ) (none : Row) → first (hasIdentifier i) none (viewRows (c .rows)) ≡ first (hasIdentifier i) none (rowsNamed h)
   -- The menu command always fits in 250 bytes.
-  pub fits : length (menuBytes (menuWanted asked h c)) ≤ 250
+  pub fits : length (wanted asked (viewRows (c .rows)) h desk.menu) ≤ 250
   -- Each timer has at most one owner, the one that the history names (0: nobody) ..
   pub timer : (k : ℕ) → ownerOf (c .bank .owner) k ≡ timerOwner k h
   pub one-owner : (k n o : ℕ) → 1 ≤ n → 1 ≤ o → ownsTimer k n h ≡ true → ownsTimer k o h ≡ true → n ≡ o
@@ -172,10 +176,9 @@ pub record OnScreen (asked : List ℕ) (l : List Seen) (c : Card) : Type 0 where
   -- history wants (MenuRight, crates/history/specs/OnScreen.antt); unless the event list is due, so are the codes last handed.
   pub menu : c .desk .session ≡ true → c .desk .due .menu ≡ false → MenuRight asked l (view c) (accepted (entriesOf l))
   pub codes : c .desk .session ≡ true → c .desk .due .events ≡ false → codesHanded l ≡ codesNamed (accepted (entriesOf l))
-  -- WHAT IS DUE IS AT MOST TWO HAND-OUTS AWAY: a hand-out, its response and one hand-out more leave nothing due.
-  pub two-are-enough : (s t u : Seen) (k j i : Card) → Next c s k → Next k t j → Next j u i
-      → (buffer other : List ℕ) → callOf s ≡ systemCommand buffer → callOf t ≡ proactive response → callOf u ≡ systemCommand other
-      → c .desk .outstanding ≡ false → 256 ≤ length buffer → 256 ≤ length other → i .desk .due ≡ nothingDue
+  -- AS MANY HAND-OUTS AS MATTERS ARE DUE, each followed by its response, leave nothing due.
+  pub mends : (buffers : List (List ℕ)) (k : Card) → HandedOut c buffers k → c .desk .outstanding ≡ false → Every (λ (b : List ℕ). 256 ≤ length b) buffers
+      → length (dueMatters (c .desk .due)) ≤ length buffers → k .desk .due ≡ nothingDue
 
 -- ALL OF IT, of a card c that was made with the title asked for, and the calls l that were seen on it.
 pub record Promised (asked : List ℕ) (l : List Seen) (c : Card) : Type 0 where
