@@ -12,7 +12,7 @@ use Rattle.lists.specs.Tests.{if_then_else_}
 use Rattle.lists.specs.Lists.{Every, keep, empty?}
 use Rattle.rules.specs.declared.Due.{Due}
 use Rattle.rules.specs.Holds.{Desk, Model, nothingDue}
-use Rattle.rules.specs.Desk.{withOutstanding, isDue, handedOut, dueMatters, dueCommand, withFirst, withHandedOut}
+use Rattle.rules.specs.Desk.{withOutstanding, menu, isDue, handedOut, dueMatters, dueCommand, withFirst, withHandedOut}
 use Rattle.rules.specs.Calls.{Outcome, proactive, systemCommand, response}
 use Rattle.rules.specs.Refusals.{firstHolding, proactiveLines, lines, refusal}
 use Rattle.rules.specs.Step.{proactiveDesk, deskAfter, tablesAfter, changed, answer, front, written, outcome, step}
@@ -29,6 +29,11 @@ rest-due d = go (d .due .menu) (d .due .events) refl refl
     go true e p q = rw (p, q) refl
     go false true p q = rw (p, q) refl
     go false false p q = rw (p, q) refl
+
+-- the menu leads
+pub menu-leads : (d : Due) → d .menu ≡ true → dueMatters d ≡ menu ∷ drop 1 (dueMatters d)
+unfolding dueMatters keep isDue
+menu-leads d e = rw e refl
 
 none-due : (d : Due) → dueMatters d ≡ [] → d ≡ nothingDue
 unfolding dueMatters keep isDue empty?

@@ -26,7 +26,7 @@ use Rattle.history.proofs.Promises.{past, agree, sound, from-1-to-8, se
 use Rattle.history.proofs.Stands.{shown-read}
 use Rattle.history.proofs.Handing.{codes-back, right}
 use Rattle.history.proofs.Shown.{rows-shown, rows-wanted, codes-shown}
-use Rattle.history.proofs.HandOuts.{taken, handed-due, nothing-due, due-left, mended}
+use Rattle.history.proofs.HandOuts.{taken, handed-due, menu-leads, nothing-due, due-left, mended}
 use Rattle.history.proofs.Sent.{sends-no-menu, sends-no-list}
 
 module _ (title : List ℕ) (calls : List Call) where
@@ -101,6 +101,7 @@ module _ (title : List ℕ) (calls : List Call) where
   unfolding dueCommand firstCommand
   hands-out buffer ok =
       record {
+        menu-first = λ e. the-due ∙ ap (firstCommand (m .tables) (m .desk .title)) (menu-leads (m .desk .due) e) ∙ card-wants menu;
         first-due = λ x l e. the-due ∙ ap (firstCommand (m .tables) (m .desk .title)) e ∙ card-wants x;
         nothing-due = λ e. (the-due ∙ ap (firstCommand (m .tables) (m .desk .title)) e, nothing-due m buffer (passes m (systemCommand buffer) ok) e);
         leaves = due-left m buffer (passes m (systemCommand buffer) ok);

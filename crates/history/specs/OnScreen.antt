@@ -44,7 +44,9 @@ command m buffer = handed (seen (systemCommand buffer) (step m (systemCommand bu
 
 -- A hand-out ..
 pub record HandsOut (asked : List ℕ) (m : Model) (h : History) (buffer : List ℕ) : Type 0 where
-  -- .. of the matters that are due, the menu first and then the event list, hands out the first, as the history wants it ..
+  -- .. hands out the menu first, if it is due, as the history wants it ..
+  pub menu-first : m .desk .due .menu ≡ true → command m buffer ≡ wanted asked (m .tables .rows) h desk.menu
+  -- .. and whatever is due, the first of that ..
   pub first-due : (x : Matter) (l : List Matter) → dueMatters (m .desk .due) ≡ x ∷ l → command m buffer ≡ wanted asked (m .tables .rows) h x
   -- .. or nothing, if nothing is due, and the card is as it was ..
   pub nothing-due : dueMatters (m .desk .due) ≡ [] → (command m buffer ≡ []) × (step m (systemCommand buffer) .after ≡ m)

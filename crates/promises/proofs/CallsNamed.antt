@@ -191,8 +191,9 @@ module _ (title : List ℕ) (calls : List Call) (x : Call) where
           let due = handed-due (m title calls) buffer (passes (m title calls) (systemCommand buffer) ok) in
           let by : handed s ≡ command (m title calls) buffer = ap (λ (y : Call). handed (seen y (step (m title calls) y))) e in
           record {
+            menu-first = λ q. by ∙ does .menu-first q ∙ wanted-of menu;
             first-due = λ y l q. by ∙ does .first-due y l q ∙ wanted-of y;
-            read-back = λ l q. ap (menuReader document) (by ∙ does .first-due menu l q) ∙ right .read-back ∙ sym (ap (λ (r : List Row). readAs (menuOf (titleOf title) (keep (isShown (h title calls)) r))) (rows-are title calls));
+            read-back = λ q. ap (menuReader document) (by ∙ does .menu-first q) ∙ right .read-back ∙ sym (ap (λ (r : List Row). readAs (menuOf (titleOf title) (keep (isShown (h title calls)) r))) (rows-are title calls));
             nothing-due = λ q. (by ∙ does .nothing-due q .0, ap (λ (y : Call). stored (step (m title calls) y .after)) e ∙ ap stored (does .nothing-due q .1));
             at-the-front = ap (λ (y : Call). step (m title calls) y .buffer) e ∙ front-so (m title calls) buffer ok ∙ ap (λ (b : List ℕ). front b buffer) (sym (by ∙ due));
             leaves = ap (λ (y : Call). dueMatters (step (m title calls) y .after .desk .due)) e ∙ does .leaves;

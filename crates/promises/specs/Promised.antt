@@ -86,11 +86,13 @@ pub record Orders (position : ℕ → ℕ) (before : List Row) (s : Seen) (after
 
 -- SYSTEM COMMANDS. An accepted system command ..
 pub record HandsOut (asked : List ℕ) (h : History) (c : Card) (s : Seen) (k : Card) (buffer : List ℕ) : Type 0 where
-  -- .. of the matters that are due, the menu first and then the event list, hands out the first: the command that the history wants ..
-  pub first-due : (x : Matter) (l : List Matter) → dueMatters (c .desk .due) ≡ x ∷ l → handed s ≡ wanted asked (viewRows (c .rows)) h x
-  -- .. which for the menu, read back, is the title and the enabled rows of selectable applets in the menu list's order ..
-  pub read-back : (l : List Matter) → dueMatters (c .desk .due) ≡ desk.menu ∷ l
+  -- .. hands out the menu first, if it is due: the one that the history wants, and read back it is the title and the enabled rows of
+  -- selectable applets in the menu list's order ..
+  pub menu-first : c .desk .due .menu ≡ true → handed s ≡ wanted asked (viewRows (c .rows)) h desk.menu
+  pub read-back : c .desk .due .menu ≡ true
       → menuReader document (handed s) ≡ record { refusal = 0; menu = menuOf (titleOf asked) (keep (isShown h) (viewRows (c .rows))) }
+  -- .. of all matters that are due the first: the menu, then the event list with the codes that the history wants ..
+  pub first-due : (x : Matter) (l : List Matter) → dueMatters (c .desk .due) ≡ x ∷ l → handed s ≡ wanted asked (viewRows (c .rows)) h x
   -- .. or nothing, if nothing is due, and the card is as it was ..
   pub nothing-due : dueMatters (c .desk .due) ≡ [] → (handed s ≡ []) × (k ≡ c)
   -- .. writes it at the front of the buffer, leaves the rest of that, and leaves the other matters due.
