@@ -1,37 +1,22 @@
 -- `floor_records::obey_all` meets its contract: with i records obeyed, their lines stand at the front, the rest of the piece gives the rest, and the
 -- next number is spelled. Assumes nothing.
-use Prim.Native.Nat.{_-_}
-use Prim.Native.Char.{code}
+use Prim.Native.Nat.{_+_, _-_, _^_, _≤_, _<_}
 use native.Mathlib.Omega.{arith}
-use mathlib.Core.Path.{_≡_, refl, sym, ap, _∙_}
-use mathlib.Core.Bool.{_&&_}
+use mathlib.Core.Path.{_≡_, sym, ap, _∙_}
 use mathlib.Core.Logic.{⊎-elim}
 use denote.Ref.{now}
-use lib.ListN.{length, take, drop, length-take}
-use lib.IntN.{ℤ}
+use lib.ListN.{length, take, length-take}
 use lib.Seq.{length-take-le}
 use mir.Syntax.{w16}
 use mir.ValLaws.{toZ-ofZ}
 use borrow.Author.Needs.{needs}
-use Rattle.lists.specs.Tests.{_==_, _≤?_}
-use Rattle.lists.specs.Lists.{some?, in?}
-use Rattle.lists.specs.Text.{ascii}
-use Rattle.lists.proofs.Padded.{take-padded}
-use Rattle.rules.specs.declared.Request.{Request}
-use Rattle.rules.specs.Bytes.{byte}
-use Rattle.rules.specs.Held.{storedAnswer}
-use Rattle.rules.specs.Calls.{admin, event, entry, timer, arrival, settled, proactive}
-use Rattle.rules.specs.Calls.{install, delete, lock, unlock, setEvent, clearEvent, newEntry, allocate, envelope, profile, response}
-use Rattle.rules.specs.Floor.{orderBy, requestOf, signed, shownAnswer}
-use Rattle.rules.specs.Step.{step}
 use Rattle.card.specs.View.{view}
-use Rattle.card.specs.Replies.{replied}
 use Rattle.floor_lines.specs.Texts.{Spells}
 use Rattle.floor_lines.proofs.LineLaws.{decimal-20}
 use Rattle.floor_lines.proofs.Counting.{spells-few, wrote-spells}
-use Rattle.floor_answers.specs.Shown.{shownBy}
 use Rattle.floor_records.specs.Pieces.{recordsIn}
-use Rattle.floor_records.proofs.ObeyLaws.{Heard, Made, made-call, made-command, made-none, at-record}
+use Rattle.floor_records.proofs.ObeyLaws.{Heard, Made, made-command, made-none, at-record}
+use Rattle.floor_records.proofs.Letters.{installs, enters, sets, clears, profiles, arrives, settles, responds, allocates, deletes, locks, unlocks}
 use Rattle.floor_records.proofs.Begun.{Begun, line-short, begun-none, begun-more, begun-all}
 use Rattle.floor_records.proofs.obey_all.Statement.{statement}
 use Rattle.floor_records.proofs.obey_all.Tie as tie
@@ -145,48 +130,45 @@ heard j =
 made
     : (j : tie.At-match-came Inv-loop μ-loop)
     → Made (view (j .before .before .before .before .before .before .before .loop .card)) (now (j .before .before .before .before .first .result)) (j .before .call-letter .result) (j .match .command) (j .match .reply)
-unfolding orderBy shownBy in? some? ascii shownAnswer storedAnswer
 made j =
-    let m = view (j .before .before .before .before .before .before .before .loop .card) in
-    let n = byte (now (j .before .before .before .before .first .result)) 2 in
-    let a = j .before .before .before .byte-at .result in
-    let l = now (j .before .before .arguments .result) in
     let h = heard j in
-    ⊎-elim
-    (λ w. made-call h (code "I") (n == 12) (admin (install a (requestOf l))) (w .0 .keys1) refl refl (λ o. refl) (w .2 .ensures ∙ ap (λ (q : Request). replied (step m (admin (install a q)))) (w .1 .ensures)) (w .3) (w .4))
-    (⊎-elim
-    (λ w. made-call h (code "M") (1 ≤? n && byte l 0 ≤? 1) (entry (newEntry a (byte l 0 == 1) (drop 1 l))) (w .0 .keys2) refl refl (λ o. refl) (w .3 .ensures ∙ rw (w .1 .ensures, w .2 .ensures) refl) (w .4) (w .5))
-    (⊎-elim
-    (λ w. made-call h (code "E") (n == 2) (event (setEvent a (signed (byte l 0) (byte l 1)))) (w .0 .keys3) refl refl (λ o. refl) (w .2 .ensures ∙ ap (λ (v : ℤ). replied (step m (event (setEvent a v)))) (toZ-ofZ w16 _ (record { sfits = w .1 .ok }) ∙ w .1 .ensures)) (w .3) (w .4))
-    (⊎-elim
-    (λ w. made-call h (code "C") (n == 2) (event (clearEvent a (signed (byte l 0) (byte l 1)))) (w .0 .keys4) refl refl (λ o. refl) (w .2 .ensures ∙ ap (λ (v : ℤ). replied (step m (event (clearEvent a v)))) (toZ-ofZ w16 _ (record { sfits = w .1 .ok }) ∙ w .1 .ensures)) (w .3) (w .4))
-    (⊎-elim
-    (λ w. made-call h (code "P") (a == 0) (arrival (profile l)) (w .0 .keys5) refl refl (λ o. take-padded 8 0 (o .answer .called)) (w .1 .ensures) (w .2) (w .3))
-    (⊎-elim
-    (λ w. made-call h (code "S") (a == 0) (arrival (envelope l)) (w .0 .keys6) refl refl (λ o. take-padded 8 0 (o .answer .called)) (w .1 .ensures) (w .2) (w .3))
-    (⊎-elim
-    (λ w. made-call h (code "O") (n == 0 && a == 0) (settled) (w .0 .keys7) refl refl (λ o. take-padded 8 0 (o .answer .called)) (w .1 .ensures) (w .2) (w .3))
-    (⊎-elim
-    (λ w. made-command h (w .0 .keys8) (w .2 .ensures) (w .2 .kept .1 .0) (w .4) (w .5))
-    (⊎-elim
-    (λ w. made-call h (code "R") (n == 0 && a == 0) (proactive response) (w .0 .keys9) refl refl (λ o. refl) (w .1 .ensures) (w .2) (w .3))
-    (⊎-elim
-    (λ w. made-call h (code "T") (n == 0) (timer (allocate a)) (w .0 .keys10) refl refl (λ o. refl) (w .1 .ensures) (w .2) (w .3))
-    (⊎-elim
-    (λ w. made-call h (code "D") (n == 0) (admin (delete a)) (w .0 .keys11) refl refl (λ o. refl) (w .1 .ensures) (w .2) (w .3))
-    (⊎-elim
-    (λ w. made-call h (code "L") (n == 0) (admin (lock a)) (w .0 .keys12) refl refl (λ o. refl) (w .1 .ensures) (w .2) (w .3))
-    (⊎-elim
-    (λ w. made-call h (code "U") (n == 0) (admin (unlock a)) (w .0 .keys13) refl refl (λ o. refl) (w .1 .ensures) (w .2) (w .3))
+    ⊎-elim (λ w. installs h (w .1 .ensures) (w .0 .keys1) (w .2 .ensures) (w .3) (w .4))
+    (⊎-elim (λ w. enters h (w .1 .ensures) (w .2 .ensures) (w .0 .keys2) (w .3 .ensures) (w .4) (w .5))
+    (⊎-elim (λ w. sets h (toZ-ofZ w16 _ (record { sfits = w .1 .ok }) ∙ w .1 .ensures) (w .0 .keys3) (w .2 .ensures) (w .3) (w .4))
+    (⊎-elim (λ w. clears h (toZ-ofZ w16 _ (record { sfits = w .1 .ok }) ∙ w .1 .ensures) (w .0 .keys4) (w .2 .ensures) (w .3) (w .4))
+    (⊎-elim (λ w. profiles h (w .0 .keys5) (w .1 .ensures) (w .2) (w .3))
+    (⊎-elim (λ w. arrives h (w .0 .keys6) (w .1 .ensures) (w .2) (w .3))
+    (⊎-elim (λ w. settles h (w .0 .keys7) (w .1 .ensures) (w .2) (w .3))
+    (⊎-elim (λ w. made-command h (w .0 .keys8) (w .2 .ensures) (w .2 .kept .1 .0) (w .4) (w .5))
+    (⊎-elim (λ w. responds h (w .0 .keys9) (w .1 .ensures) (w .2) (w .3))
+    (⊎-elim (λ w. allocates h (w .0 .keys10) (w .1 .ensures) (w .2) (w .3))
+    (⊎-elim (λ w. deletes h (w .0 .keys11) (w .1 .ensures) (w .2) (w .3))
+    (⊎-elim (λ w. locks h (w .0 .keys12) (w .1 .ensures) (w .2) (w .3))
+    (⊎-elim (λ w. unlocks h (w .0 .keys13) (w .1 .ensures) (w .2) (w .3))
     (λ w. made-none h (w .0 .rest) (w .1 .ensures) (w .2) (w .3))))))))))))))
     (j .match .came)
 
+-- in a turn there is room for a line, the number has at most 20 digits, and the next number and the next turn can be counted
+abbrev Turn : Type 0
+Turn = tie.In-loop Inv-loop μ-loop
+
+room : (t : Turn) → (t .before .loop .len + 540 ≤ length (t .before .loop .out)) × (length (t .before .loop .out) < 2 ^ 64)
+room t =
+    let l = t .before .loop in
+    let s = t .before .before .before .before .before .before .before in
+    (omega (arith, t .loop-test .taken, l .inv .0 .short, l .inv .0 .wrote .long, s .pre), omega (arith, l .inv .0 .wrote .long, s .good))
+
+counts : (t : Turn) → (t .before .loop .number + 1 < 2 ^ 64) × (t .before .loop .i + 1 < 2 ^ 64)
+counts t =
+    let l = t .before .loop in
+    let s = t .before .before .before .before .before .before .before in
+    (omega (arith, t .loop-test .taken, l .inv .0 .counted, s .pre), omega (arith, t .loop-test .taken, s .good))
+
+few : (t : Turn) → t .before .loop .count ≤ 20
+few t = spells-few (t .before .loop .inv .1) (omega (arith, counts t))
+
 add-line : tie.Need-add-line Inv-loop μ-loop
-add-line c =
-    let t = c .before .before .before .before .before .before .before in
-    let l = c .before .before .before .before .before .before .before .before in
-    let s = c .before .before .before .before .before .before .before .before .before .before .before .before .before .before in
-    omega (arith, t .loop-test .taken, l .loop .inv .0 .short, l .loop .inv .0 .wrote .long, s .pre, s .good)
+add-line c = omega (arith, room (c .before .before .before .before .before .before .before))
 
 sub-line : tie.Need-sub-line Inv-loop μ-loop
 sub-line c = search needs
@@ -195,77 +177,43 @@ part-line-start : tie.Need-part-line-start Inv-loop μ-loop
 part-line-start c = search needs
 
 part-line-end : tie.Need-part-line-end Inv-loop μ-loop
-part-line-end c =
-    let t = c .before .before .before .before .before .before .before in
-    let l = c .before .before .before .before .before .before .before .before in
-    let s = c .before .before .before .before .before .before .before .before .before .before .before .before .before .before in
-    omega (arith, t .loop-test .taken, l .loop .inv .0 .short, l .loop .inv .0 .wrote .long, s .pre, s .good)
+part-line-end c = omega (arith, room (c .before .before .before .before .before .before .before))
 
 byte-at-requires-3 : tie.Need-byte-at-requires-3 Inv-loop μ-loop
 byte-at-requires-3 c κs = search needs
 
 array-share-prefix-digits : tie.Need-array-share-prefix-digits Inv-loop μ-loop
-array-share-prefix-digits c =
-    let t = c .before .before .before .before .before .before .before .before .before in
-    let l = c .before .before .before .before .before .before .before .before .before .before in
-    let s = c .before .before .before .before .before .before .before .before .before .before .before .before .before .before .before .before in
-    omega (arith, spells-few (l .loop .inv .1) (omega (arith, t .loop-test .taken, l .loop .inv .0 .counted, s .pre)))
+array-share-prefix-digits c = omega (arith, few (c .before .before .before .before .before .before .before .before .before))
 
 slice-aggregate-write-answer : tie.Need-slice-aggregate-write-answer Inv-loop μ-loop
-slice-aggregate-write-answer c =
-    let t = c .before .before .before .before .before .before .before .before .before .before in
-    let l = c .before .before .before .before .before .before .before .before .before .before .before in
-    let s = c .before .before .before .before .before .before .before .before .before .before .before .before .before .before .before .before .before in
-    sym (length-take-le _ _ (omega (arith, l .loop .inv .2, spells-few (l .loop .inv .1) (omega (arith, t .loop-test .taken, l .loop .inv .0 .counted, s .pre)))))
+slice-aggregate-write-answer c = let t = c .before .before .before .before .before .before .before .before .before .before in sym (length-take-le _ _ (omega (arith, t .before .loop .inv .2, few t)))
 
 slice-aggregate-write-answer-2 : tie.Need-slice-aggregate-write-answer-2 Inv-loop μ-loop
 slice-aggregate-write-answer-2 c = sym (made (c .before .before .before .before .before) .long)
 
 write-answer-requires : tie.Need-write-answer-requires Inv-loop μ-loop
-write-answer-requires c κs =
-    let t = c .before .before .before .before .before .before .before .before .before .before .before in
-    let l = c .before .before .before .before .before .before .before .before .before .before .before .before in
-    let s = c .before .before .before .before .before .before .before .before .before .before .before .before .before .before .before .before .before .before in
-    (omega (arith, length-take (l .loop .count) (l .loop .digits), spells-few (l .loop .inv .1) (omega (arith, t .loop-test .taken, l .loop .inv .0 .counted, s .pre))), omega (arith, t .loop-test .taken, l .loop .inv .0 .short, l .loop .inv .0 .wrote .long, s .pre, s .good))
+write-answer-requires c κs = let t = c .before .before .before .before .before .before .before .before .before .before .before in (omega (arith, length-take (t .before .loop .count) (t .before .loop .digits), few t), omega (arith, room t))
 
 add-len : tie.Need-add-len Inv-loop μ-loop
 add-len c =
-    let w = c .before .before in
     let t = c .before .before .before .before .before .before .before .before .before .before .before .before .before .before in
-    let l = c .before .before .before .before .before .before .before .before .before .before .before .before .before .before .before in
-    let s = c .before .before .before .before .before .before .before .before .before .before .before .before .before .before .before .before .before .before .before .before .before in
-    omega (arith, line-short (l .loop .out) (l .loop .len) (w .write-answer .ensures (l .loop .number) (l .loop .inv .1 .text)), t .loop-test .taken, l .loop .inv .0 .short, l .loop .inv .0 .wrote .long, s .pre, s .good)
+    let l = t .before .loop in
+    omega (arith, line-short (l .out) (l .len) (c .before .before .write-answer .ensures (l .number) (l .inv .1 .text)), room t)
 
 slice-aggregate-count-on : tie.Need-slice-aggregate-count-on Inv-loop μ-loop
 slice-aggregate-count-on c = sym (c .before .before .before .before .before .before .before .before .before .before .before .before .before .before .before .before .loop .inv .2)
 
 count-on-requires : tie.Need-count-on-requires Inv-loop μ-loop
-count-on-requires c κs =
-    let t = c .before .before .before .before .before .before .before .before .before .before .before .before .before .before .before in
-    let l = c .before .before .before .before .before .before .before .before .before .before .before .before .before .before .before .before in
-    let s = c .before .before .before .before .before .before .before .before .before .before .before .before .before .before .before .before .before .before .before .before .before .before in
-    (l .loop .inv .1, omega (arith, l .loop .inv .2), omega (arith, t .loop-test .taken, l .loop .inv .0 .counted, s .pre))
+count-on-requires c κs = let t = c .before .before .before .before .before .before .before .before .before .before .before .before .before .before .before in (t .before .loop .inv .1, omega (arith, t .before .loop .inv .2), omega (arith, counts t))
 
 add-number : tie.Need-add-number Inv-loop μ-loop
-add-number c =
-    let t = c .before .before .before .before .before .before .before .before .before .before .before .before .before .before .before .before .before in
-    let l = c .before .before .before .before .before .before .before .before .before .before .before .before .before .before .before .before .before .before in
-    let s = c .before .before .before .before .before .before .before .before .before .before .before .before .before .before .before .before .before .before .before .before .before .before .before .before in
-    omega (arith, t .loop-test .taken, l .loop .inv .0 .counted, s .pre)
+add-number c = omega (arith, counts (c .before .before .before .before .before .before .before .before .before .before .before .before .before .before .before .before .before))
 
 add-i : tie.Need-add-i Inv-loop μ-loop
-add-i c =
-    let t = c .before .before .before .before .before .before .before .before .before .before .before .before .before .before .before .before .before in
-    let l = c .before .before .before .before .before .before .before .before .before .before .before .before .before .before .before .before .before .before in
-    let s = c .before .before .before .before .before .before .before .before .before .before .before .before .before .before .before .before .before .before .before .before .before .before .before .before in
-    omega (arith, t .loop-test .taken, s .good)
+add-i c = omega (arith, counts (c .before .before .before .before .before .before .before .before .before .before .before .before .before .before .before .before .before))
 
 loop-less : tie.Need-loop-less Inv-loop μ-loop
-loop-less c =
-    let t = c .before .before .before .before .before .before .before .before .before .before .before .before .before .before .before .before .before in
-    let l = c .before .before .before .before .before .before .before .before .before .before .before .before .before .before .before .before .before .before in
-    let s = c .before .before .before .before .before .before .before .before .before .before .before .before .before .before .before .before .before .before .before .before .before .before .before .before in
-    omega (arith, t .loop-test .taken)
+loop-less c = omega (arith, c .before .before .before .before .before .before .before .before .before .before .before .before .before .before .before .before .before .loop-test .taken)
 
 loop-again : tie.Need-loop-again Inv-loop μ-loop
 loop-again c =
