@@ -12,28 +12,32 @@ use Rattle.lists.specs.Tests.{if_then_else_}
 use Rattle.lists.specs.Lists.{Every, keep, empty?}
 use Rattle.rules.specs.declared.Due.{Due}
 use Rattle.rules.specs.Holds.{Desk, Model, nothingDue}
-use Rattle.rules.specs.Desk.{withOutstanding, menu, isDue, handedOut, dueMatters, dueCommand, withFirst, withHandedOut}
+use Rattle.rules.specs.Desk.{withOutstanding, isDue, handedOut, dueMatters, dueCommand, withFirst, withHandedOut}
 use Rattle.rules.specs.Calls.{Outcome, proactive, systemCommand, response}
 use Rattle.rules.specs.Refusals.{firstHolding, proactiveLines, lines, refusal}
 use Rattle.rules.specs.Step.{proactiveDesk, deskAfter, tablesAfter, changed, answer, front, written, outcome, step}
-use Rattle.rules.proofs.DueMarks.{marked-same}
+use Rattle.rules.proofs.DueMarks.{marked-same, first-handed}
 use Rattle.history.specs.Handed.{seen, handed}
-use Rattle.history.specs.OnScreen.{command, handOuts}
+use Rattle.history.specs.OnScreen.{leftDue, command, handOuts}
 
--- handing out leaves the rest due, and what leaves nothing to hand out is nothing due
-rest-due : (d : Desk) → dueMatters (withHandedOut d .due) ≡ drop 1 (dueMatters (d .due))
+-- handing out clears its mark, and leaves the rest due; what leaves nothing to hand out is nothing due
+clears-first : (d : Desk) → withHandedOut d .due ≡ leftDue (d .due)
 unfolding withHandedOut withFirst handedOut dueMatters keep isDue
-rest-due d = go (d .due .menu) (d .due .events) refl refl
+clears-first d = go (d .due .menu) (d .due .events) refl refl
   where
-    go : (m e : Bool) → d .due .menu ≡ m → d .due .events ≡ e → dueMatters (withHandedOut d .due) ≡ drop 1 (dueMatters (d .due))
-    go true e p q = rw (p, q) refl
+    go : (m e : Bool) → d .due .menu ≡ m → d .due .events ≡ e → withHandedOut d .due ≡ leftDue (d .due)
+    go true e p q = rw p refl
     go false true p q = rw (p, q) refl
     go false false p q = rw (p, q) refl
 
--- the menu leads
-pub menu-leads : (d : Due) → d .menu ≡ true → dueMatters d ≡ menu ∷ drop 1 (dueMatters d)
+rest-due : (d : Due) → dueMatters (leftDue d) ≡ drop 1 (dueMatters d)
 unfolding dueMatters keep isDue
-menu-leads d e = rw e refl
+rest-due d = go (d .menu) (d .events) refl refl
+  where
+    go : (m e : Bool) → d .menu ≡ m → d .events ≡ e → dueMatters (leftDue d) ≡ drop 1 (dueMatters d)
+    go true e p q = rw (p, q) refl
+    go false true p q = rw (p, q) refl
+    go false false p q = rw (p, q) refl
 
 none-due : (d : Due) → dueMatters d ≡ [] → d ≡ nothingDue
 unfolding dueMatters keep isDue empty?
@@ -62,20 +66,20 @@ module _ (m : Model) (buffer : List ℕ) where
         ap (λ (o : Outcome). handed (seen (systemCommand buffer) o)) hands-out
         ∙ take-append-seam (dueCommand (m .tables) (m .desk)) _
 
-    -- .. nothing, where nothing is due, and leaves the card ..
-    pub nothing-due : dueMatters (m .desk .due) ≡ [] → step m (systemCommand buffer) .after ≡ m
-    unfolding outcome changed tablesAfter deskAfter withHandedOut withFirst
-    nothing-due e =
+    -- .. nothing due leaves the card ..
+    pub nothing-due : m .desk .due .menu ≡ false → m .desk .due .events ≡ false → step m (systemCommand buffer) .after ≡ m
+    unfolding outcome changed tablesAfter deskAfter
+    nothing-due e f =
         ap (λ (o : Outcome). o .after) hands-out
-        ∙ ap (λ (d : Desk). record { tables = m .tables; desk = d }) (marked-same (m .tables) (withHandedOut (m .desk)) ∙ ap (withFirst (m .desk)) e)
+        ∙ ap (λ (d : Desk). record { tables = m .tables; desk = d }) (marked-same (m .tables) (withHandedOut (m .desk)) ∙ first-handed (m .desk) ∙ rw (e, f) refl)
 
-    -- .. and leaves the others due
-    pub due-left : dueMatters (step m (systemCommand buffer) .after .desk .due) ≡ drop 1 (dueMatters (m .desk .due))
+    -- .. and its mark is cleared
+    pub due-left : step m (systemCommand buffer) .after .desk .due ≡ leftDue (m .desk .due)
     unfolding outcome changed tablesAfter deskAfter
     due-left =
-        ap (λ (o : Outcome). dueMatters (o .after .desk .due)) hands-out
-        ∙ ap (λ (d : Desk). dueMatters (d .due)) (marked-same (m .tables) (withHandedOut (m .desk)))
-        ∙ rest-due (m .desk)
+        ap (λ (o : Outcome). o .after .desk .due) hands-out
+        ∙ ap (λ (d : Desk). d .due) (marked-same (m .tables) (withHandedOut (m .desk)))
+        ∙ clears-first (m .desk)
 
 -- a response, accepted or not, leaves nothing outstanding, and due what was due
 pub responded : (m : Model)
@@ -99,5 +103,5 @@ mended m [] idle room few = none-due (m .desk .due) (none (dueMatters (m .desk .
     none (x ∷ l) h = absurd (omega arith)
 mended m (b ∷ l) idle (fits, room) few =
     let x = step m (systemCommand b) .after in
-    let left : dueMatters (step x (proactive response) .after .desk .due) ≡ drop 1 (dueMatters (m .desk .due)) = ap dueMatters (responded x .1) ∙ due-left m b (taken m b idle fits) in
+    let left : dueMatters (step x (proactive response) .after .desk .due) ≡ drop 1 (dueMatters (m .desk .due)) = ap dueMatters (responded x .1 ∙ due-left m b (taken m b idle fits)) ∙ rest-due (m .desk .due) in
     mended (step x (proactive response) .after) l (responded x .0) room (omega (arith, ap length left, length-drop 1 (dueMatters (m .desk .due))))

@@ -1,21 +1,23 @@
 -- THE SCREEN IS RIGHT after any sequence of calls on a fresh card, refused ones included. What the terminal was handed is looked back
 -- from the calls, their answers and what they left in the lent buffers. Assumes nothing.
 use Prim.Native.Nat.{ℕ, _≤_}
-use mathlib.Core.Path.{_≡_, sym, ap, _∙_}
+use mathlib.Core.Path.{_≡_, refl, sym, ap, _∙_}
 use mathlib.Core.Bool.{Bool, true, false}
-use mathlib.Core.List.{List, map}
+use mathlib.Core.List.{List, [], map}
 use lib.ListN.{length}
+use Rattle.lists.specs.Tests.{if_then_else_}
 use Rattle.lists.specs.Lists.{count, keep}
 use Rattle.lists.proofs.Counts.{count-map}
 use Rattle.lists.proofs.Times.{some-alike}
 use Rattle.rules.specs.Holds.{Row, Model, document}
 use Rattle.rules.specs.Commands.{Menu, shownMenu, shownEvents, menuOf, menuBytes, eventBytes, isMenu}
-use Rattle.rules.specs.Desk.{Matter, menu, eventList, commandFor, firstCommand, dueCommand}
+use Rattle.rules.specs.Desk.{Matter, menu, eventList, commandFor}
 use Rattle.rules.specs.Calls.{Call, Answer, proactive, systemCommand, send}
 use Rattle.rules.specs.Refusals.{refusal}
 use Rattle.rules.specs.Step.{step}
 use Rattle.rules.specs.Beside.{ReadOutcome, menuReader}
 use Rattle.rules.specs.Runs.{cardAfter}
+use Rattle.rules.proofs.DueMarks.{first-due}
 use Rattle.history.specs.Histories.{History}
 use Rattle.history.specs.Named.{rowsNamed, inSession, isOutstanding}
 use Rattle.history.specs.Handed.{titleOf, Seen, seenOf, handedSince, lastMenu, screen, codesIn, isEventList, codesHanded, isShown, codesNamed}
@@ -26,7 +28,7 @@ use Rattle.history.proofs.Promises.{past, agree, sound, from-1-to-8, se
 use Rattle.history.proofs.Stands.{shown-read}
 use Rattle.history.proofs.Handing.{codes-back, right}
 use Rattle.history.proofs.Shown.{rows-shown, rows-wanted, codes-shown}
-use Rattle.history.proofs.HandOuts.{taken, handed-due, menu-leads, nothing-due, due-left, mended}
+use Rattle.history.proofs.HandOuts.{taken, handed-due, nothing-due, due-left, mended}
 use Rattle.history.proofs.Sent.{sends-no-menu, sends-no-list}
 
 module _ (title : List ℕ) (calls : List Call) where
@@ -98,17 +100,17 @@ module _ (title : List ℕ) (calls : List Call) where
   card-wants eventList = ap eventBytes card-codes
 
   hands-out : (buffer : List ℕ) → step m (systemCommand buffer) .answer .refusal ≡ 0 → HandsOut title m h buffer
-  unfolding dueCommand firstCommand
+  unfolding commandFor
   hands-out buffer ok =
       record {
-        menu-first = λ e. the-due ∙ ap (firstCommand (m .tables) (m .desk .title)) (menu-leads (m .desk .due) e) ∙ card-wants menu;
-        first-due = λ x l e. the-due ∙ ap (firstCommand (m .tables) (m .desk .title)) e ∙ card-wants x;
-        nothing-due = λ e. (the-due ∙ ap (firstCommand (m .tables) (m .desk .title)) e, nothing-due m buffer (passes m (systemCommand buffer) ok) e);
-        leaves = due-left m buffer (passes m (systemCommand buffer) ok);
+        menu-first = λ e. the-due ∙ rw e (card-wants menu);
+        then-events = λ e f. the-due ∙ rw (e, f) (card-wants eventList);
+        else-nothing = λ e f. (the-due ∙ rw (e, f) refl, nothing-due m buffer (passes m (systemCommand buffer) ok) e f);
+        clears = due-left m buffer (passes m (systemCommand buffer) ok);
       }
     where
-      the-due : command m buffer ≡ dueCommand (m .tables) (m .desk)
-      the-due = handed-due m buffer (passes m (systemCommand buffer) ok)
+      the-due : command m buffer ≡ (if m .desk .due .menu then commandFor (m .tables) (m .desk .title) menu else if m .desk .due .events then commandFor (m .tables) (m .desk .title) eventList else [])
+      the-due = handed-due m buffer (passes m (systemCommand buffer) ok) ∙ first-due (m .tables) (m .desk)
 
   accepts : (buffer : List ℕ) → isOutstanding h ≡ false → 256 ≤ length buffer → step m (systemCommand buffer) .answer .refusal ≡ 0
   accepts buffer idle room =

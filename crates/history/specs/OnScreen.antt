@@ -3,8 +3,10 @@ use Prim.Native.Nat.{ℕ, _≤_}
 use mathlib.Core.Path.{_≡_}
 use mathlib.Core.Bool.{Bool, true, false}
 use mathlib.Core.List.{List, [], _∷_, map}
-use lib.ListN.{length, drop}
+use lib.ListN.{length}
+use Rattle.lists.specs.Tests.{if_then_else_}
 use Rattle.lists.specs.Lists.{Every, some?, keep, count}
+use Rattle.rules.specs.declared.Due.{Due}
 use Rattle.rules.specs.Holds.{Row, Model, document, nothingDue}
 use Rattle.rules.specs.Commands.{Item, menuOf, menuBytes, eventBytes, isMenu}
 use Rattle.rules.specs.Desk as desk
@@ -38,6 +40,10 @@ unfoldable pub wanted : (asked : List ℕ) → List Row → History → Matter �
 wanted asked rows h desk.menu = menuBytes (menuOf (titleOf asked) (keep (isShown h) rows))
 wanted asked rows h desk.eventList = eventBytes (codesNamed h)
 
+-- what a hand-out leaves due: the menu's mark is cleared, or else that of the event list
+abbrev pub leftDue : Due → Due
+leftDue due = if due .menu then record { menu = false; events = due .events } else nothingDue
+
 -- what a hand-out on this card hands out
 abbrev pub command : Model → (buffer : List ℕ) → List ℕ
 command m buffer = handed (seen (systemCommand buffer) (step m (systemCommand buffer)))
@@ -46,12 +52,12 @@ command m buffer = handed (seen (systemCommand buffer) (step m (systemCommand bu
 pub record HandsOut (asked : List ℕ) (m : Model) (h : History) (buffer : List ℕ) : Type 0 where
   -- .. hands out the menu first, if it is due, as the history wants it ..
   pub menu-first : m .desk .due .menu ≡ true → command m buffer ≡ wanted asked (m .tables .rows) h desk.menu
-  -- .. and whatever is due, the first of that ..
-  pub first-due : (x : Matter) (l : List Matter) → dueMatters (m .desk .due) ≡ x ∷ l → command m buffer ≡ wanted asked (m .tables .rows) h x
-  -- .. or nothing, if nothing is due, and the card is as it was ..
-  pub nothing-due : dueMatters (m .desk .due) ≡ [] → (command m buffer ≡ []) × (step m (systemCommand buffer) .after ≡ m)
-  -- .. and leaves the others due.
-  pub leaves : dueMatters (step m (systemCommand buffer) .after .desk .due) ≡ drop 1 (dueMatters (m .desk .due))
+  -- .. then the event list, if that is due ..
+  pub then-events : m .desk .due .menu ≡ false → m .desk .due .events ≡ true → command m buffer ≡ wanted asked (m .tables .rows) h desk.eventList
+  -- .. else nothing, and the card is as it was ..
+  pub else-nothing : m .desk .due .menu ≡ false → m .desk .due .events ≡ false → (command m buffer ≡ []) × (step m (systemCommand buffer) .after ≡ m)
+  -- .. and clears its mark.
+  pub clears : step m (systemCommand buffer) .after .desk .due ≡ leftDue (m .desk .due)
 
 -- the card after hand-outs into these buffers, each followed by its response
 unfoldable pub handOuts : (buffers : List (List ℕ)) → Model → Model

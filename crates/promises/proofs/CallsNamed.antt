@@ -18,7 +18,7 @@ use Rattle.rules.specs.Rows.{nextPair}
 use Rattle.rules.specs.Commands.{Menu, menuOf}
 use Rattle.rules.specs.Arrivals.{Arrival, envelopeMarks, otherMarks}
 use Rattle.rules.specs.Calls.{Call, Answer, Outcome, entry, settled, systemCommand, newEntry}
-use Rattle.rules.specs.Desk.{Matter, menu, dueMatters, dueCommand, withProfile}
+use Rattle.rules.specs.Desk.{Matter, menu, eventList, dueCommand, withProfile}
 use Rattle.rules.specs.Step.{arrivalAnswer, arrivalDesk, answer, written, front, outcome, step}
 use Rattle.rules.specs.Beside.{ReadOutcome, menuReader}
 use Rattle.rules.specs.Runs.{cardAfter}
@@ -192,9 +192,9 @@ module _ (title : List ℕ) (calls : List Call) (x : Call) where
           let by : handed s ≡ command (m title calls) buffer = ap (λ (y : Call). handed (seen y (step (m title calls) y))) e in
           record {
             menu-first = λ q. by ∙ does .menu-first q ∙ wanted-of menu;
-            first-due = λ y l q. by ∙ does .first-due y l q ∙ wanted-of y;
             read-back = λ q. ap (menuReader document) (by ∙ does .menu-first q) ∙ right .read-back ∙ sym (ap (λ (r : List Row). readAs (menuOf (titleOf title) (keep (isShown (h title calls)) r))) (rows-are title calls));
-            nothing-due = λ q. (by ∙ does .nothing-due q .0, ap (λ (y : Call). stored (step (m title calls) y .after)) e ∙ ap stored (does .nothing-due q .1));
+            then-events = λ p q. by ∙ does .then-events p q ∙ wanted-of eventList;
+            else-nothing = λ p q. (by ∙ does .else-nothing p q .0, ap (λ (y : Call). stored (step (m title calls) y .after)) e ∙ ap stored (does .else-nothing p q .1));
             at-the-front = ap (λ (y : Call). step (m title calls) y .buffer) e ∙ front-so (m title calls) buffer ok ∙ ap (λ (b : List ℕ). front b buffer) (sym (by ∙ due));
-            leaves = ap (λ (y : Call). dueMatters (step (m title calls) y .after .desk .due)) e ∙ does .leaves;
+            clears = ap (λ (y : Call). step (m title calls) y .after .desk .due) e ∙ does .clears;
           }

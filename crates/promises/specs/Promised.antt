@@ -22,7 +22,7 @@ use Rattle.rules.specs.Envelopes.{envelopeOf}
 use Rattle.rules.specs.Arrivals.{choice, help as helpOn, expiry, settledArrival, envelopeMarks, otherMarks}
 use Rattle.rules.specs.Commands.{menuOf, isMenu}
 use Rattle.rules.specs.Desk as desk
-use Rattle.rules.specs.Desk.{Matter, dueMatters}
+use Rattle.rules.specs.Desk.{dueMatters}
 use Rattle.rules.specs.Calls.{Call, refusedWith, event, entry, arrival, settled, proactive, systemCommand, askEvent, newEntry, envelope, profile, send, response}
 use Rattle.rules.specs.Refusals.{Line, lines}
 use Rattle.rules.specs.Step.{lent, front}
@@ -34,7 +34,7 @@ use Rattle.history.specs.Deeds.{clears, deletes}
 use Rattle.history.specs.Named.{isPresent, isSelectable, isRegistered, ownsTimer, hasOneShot, ownsControl, oneToEight, timerOwner, controlOwner, rowsNamed, inSession, isOutstanding, profileNamed}
 use Rattle.history.specs.Called.{isChosen, isHelped, isDue, Calls, arrivalIn}
 use Rattle.history.specs.Handed.{Seen, titleOf, handed, isEventList, codesHanded, isShown, codesNamed}
-use Rattle.history.specs.OnScreen.{wanted, MenuRight}
+use Rattle.history.specs.OnScreen.{wanted, leftDue, MenuRight}
 use Rattle.promises.specs.Watched.{entriesOf, callOf, refusalOf, calledBy, Next}
 use Rattle.promises.specs.OneShots.{SetAndSettled, FiresOnce}
 use Rattle.promises.specs.DocumentOne.{Room, Already}
@@ -91,13 +91,13 @@ pub record HandsOut (asked : List ℕ) (h : History) (c : Card) (s : Seen) (k : 
   pub menu-first : c .desk .due .menu ≡ true → handed s ≡ wanted asked (viewRows (c .rows)) h desk.menu
   pub read-back : c .desk .due .menu ≡ true
       → menuReader document (handed s) ≡ record { refusal = 0; menu = menuOf (titleOf asked) (keep (isShown h) (viewRows (c .rows))) }
-  -- .. of all matters that are due the first: the menu, then the event list with the codes that the history wants ..
-  pub first-due : (x : Matter) (l : List Matter) → dueMatters (c .desk .due) ≡ x ∷ l → handed s ≡ wanted asked (viewRows (c .rows)) h x
-  -- .. or nothing, if nothing is due, and the card is as it was ..
-  pub nothing-due : dueMatters (c .desk .due) ≡ [] → (handed s ≡ []) × (k ≡ c)
-  -- .. writes it at the front of the buffer, leaves the rest of that, and leaves the other matters due.
+  -- .. then the event list, if that is due, with the codes that the history wants ..
+  pub then-events : c .desk .due .menu ≡ false → c .desk .due .events ≡ true → handed s ≡ wanted asked (viewRows (c .rows)) h desk.eventList
+  -- .. else nothing, and the card is as it was ..
+  pub else-nothing : c .desk .due .menu ≡ false → c .desk .due .events ≡ false → (handed s ≡ []) × (k ≡ c)
+  -- .. writes it at the front of the buffer, leaves the rest, and clears its mark.
   pub at-the-front : s .buffer ≡ front (handed s) buffer
-  pub leaves : dueMatters (k .desk .due) ≡ drop 1 (dueMatters (c .desk .due))
+  pub clears : k .desk .due ≡ leftDue (c .desk .due)
 
 -- Hand-outs into these buffers, each followed by its response.
 pub data HandedOut : (c : Card) (buffers : List (List ℕ)) (k : Card) → Type 0 where
