@@ -55,8 +55,9 @@ static void respond(struct both *b)
 
 static void hand_out(struct both *b)
 {
-    menu_length = toolkit_system_command(&b->ours, menu, sizeof menu).number;
+    toolkit_system_command(&b->ours, buffer, sizeof buffer);
     card_system_command(&b->plain, buffer, sizeof buffer, &number);
+    respond(b);
 }
 
 static void set_all(struct both *b, uint8_t applet)
@@ -67,7 +68,8 @@ static void set_all(struct both *b, uint8_t applet)
     }
 }
 
-/* Eight applets with a timer and all events each, twelve rows of the longest text, a session; the menu and the events are due. */
+/* Eight applets with a timer, all events and a poll interval each, the last one's the shortest, twelve rows of the longest text, a session;
+   the menu, the events and the interval are due. */
 static void fill(struct both *b)
 {
     fresh_ours(b);
@@ -81,6 +83,8 @@ static void fill(struct both *b)
         toolkit_allocate_timer(&b->ours, applet);
         card_allocate(&b->plain, applet, &number);
         set_all(b, applet);
+        toolkit_request_poll(&b->ours, applet, (int16_t)(900 - 60 * applet));
+        card_request_poll(&b->plain, applet, (int16_t)(900 - 60 * applet));
     }
     for (uint8_t row = 0; row < ROWS; row++) {
         toolkit_new_entry(&b->ours, row / 4 + 1, true, text, TEXT);
@@ -107,6 +111,12 @@ static void without_3(struct both *b)
     without(b, 3);
 }
 
+static void locked_3(struct both *b)
+{
+    toolkit_lock(&b->ours, 3);
+    card_lock(&b->plain, 3);
+}
+
 /* Applet 3 again, with three of its rows. */
 static void one_row_short(struct both *b)
 {
@@ -127,10 +137,10 @@ static void timer_8_free(struct both *b)
     card_release(&b->plain, 8, 8);
 }
 
-static void menu_handed_out(struct both *b)
+static void lists_handed_out(struct both *b)
 {
     hand_out(b);
-    respond(b);
+    hand_out(b);
 }
 
 static void outstanding(struct both *b)
@@ -145,10 +155,11 @@ static void outstanding(struct both *b)
     CALL(install, without_3, toolkit_install(&b->ours, 3, request).refusal, card_install(&b->plain, 3, (const void *)&request))         \
     CALL(delete, nothing, toolkit_delete(&b->ours, 2).refusal, card_delete(&b->plain, 2))                                               \
     CALL(lock, nothing, toolkit_lock(&b->ours, 3).refusal, card_lock(&b->plain, 3))                                                     \
-    CALL(unlock, nothing, toolkit_unlock(&b->ours, 3).refusal, card_unlock(&b->plain, 3))                                               \
+    CALL(unlock, locked_3, toolkit_unlock(&b->ours, 3).refusal, card_unlock(&b->plain, 3))                                              \
     CALL(set_event, nothing, toolkit_set_event(&b->ours, 8, 29).refusal, card_set_event(&b->plain, 8, 29))                              \
     CALL(clear_event, nothing, toolkit_clear_event(&b->ours, 8, 29).refusal, card_clear_event(&b->plain, 8, 29))                        \
     CALL(ask_event, nothing, toolkit_ask_event(&b->ours, 8, 29).refusal, card_ask_event(&b->plain, 8, 29, &yes))                        \
+    CALL(request_poll, nothing, toolkit_request_poll(&b->ours, 8, 310).refusal, card_request_poll(&b->plain, 8, 310))                   \
     CALL(new_entry, one_row_short, toolkit_new_entry(&b->ours, 3, true, text, TEXT).refusal,                                            \
          card_new_entry(&b->plain, 3, text, TEXT, true, &number))                                                                       \
     CALL(change_entry, nothing, toolkit_change_entry(&b->ours, 3, 139, false, text, 14).refusal,                                        \
@@ -166,11 +177,14 @@ static void outstanding(struct both *b)
          card_envelope(&b->plain, expiry, sizeof expiry, &called))                                                                      \
     CALL(envelope_other, nothing, toolkit_envelope(&b->ours, unrecognized, sizeof unrecognized).refusal,                                \
          card_envelope(&b->plain, unrecognized, sizeof unrecognized, &called))                                                          \
+    CALL(status, nothing, toolkit_status(&b->ours).refusal, card_status(&b->plain, &called))                                            \
     CALL(settled, nothing, toolkit_settled(&b->ours).refusal, card_settled(&b->plain, &called))                                         \
     CALL(send, nothing, send_ours(b), send_plain(b))                                                                                    \
     CALL(command_menu, nothing, toolkit_system_command(&b->ours, buffer, sizeof buffer).refusal,                                        \
          card_system_command(&b->plain, buffer, sizeof buffer, &number))                                                                \
-    CALL(command_events, menu_handed_out, toolkit_system_command(&b->ours, buffer, sizeof buffer).refusal,                              \
+    CALL(command_events, hand_out, toolkit_system_command(&b->ours, buffer, sizeof buffer).refusal,                                     \
+         card_system_command(&b->plain, buffer, sizeof buffer, &number))                                                                \
+    CALL(command_interval, lists_handed_out, toolkit_system_command(&b->ours, buffer, sizeof buffer).refusal,                           \
          card_system_command(&b->plain, buffer, sizeof buffer, &number))                                                                \
     CALL(response, outstanding, toolkit_response(&b->ours).refusal, card_response(&b->plain))                                           \
     CALL(find_element, nothing, !toolkit_find(menu + 3, menu_length - 3u, 0x0F, 12).there,                                              \
@@ -238,7 +252,7 @@ int main(void)
 {
     fill(&filled);
     cards[0] = filled;
-    hand_out(&cards[0]);
+    menu_length = toolkit_system_command(&cards[0].ours, menu, sizeof menu).number;
     for (size_t i = 0; i < sizeof calls / sizeof *calls; i++) {
         struct both start = filled;
         double best[2] = {1, 1};

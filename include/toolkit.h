@@ -1,8 +1,8 @@
 /* The toolkit runtime of a SIM, for C11 and C++17; link libtoolkit.a (`rt staticlib toolkit`), which needs memcpy, memmove and memset alone.
 
-   A card is 450 bytes of the caller's memory, with no pointer in it. Make it by toolkit_fresh, change it by the calls below only: they take
-   for granted that a fresh card and calls have left it so. It may be read, copied and moved at will. The library keeps nothing
-   between calls, allocates nothing and has no variables, so cards are independent of each other, on whatever threads.
+   A card is 468 bytes of the caller's memory, at an even address, with no pointer in it. Make it by toolkit_fresh, change it by the calls
+   below only: they take for granted that a fresh card and calls have left it so. It may be read, copied and moved at will. The library
+   keeps nothing between calls, allocates nothing and has no variables, so cards are independent of each other, on whatever threads.
 
    Every call takes every input. What it cannot do it refuses with a number, and then changes nothing: not the card, not a byte of a
    lent buffer. All that is lent stays the caller's and is used during the call only; a card or a bank lent to a call may overlap no
@@ -34,6 +34,7 @@ enum toolkit_bound {
     TOOLKIT_TITLE = 20,
     TOOLKIT_PROFILE = 32,   /* bytes of a terminal profile that are kept */
     TOOLKIT_EVENTS = 20,
+    TOOLKIT_INTERVAL = 15300,   /* seconds of the longest poll interval that may be requested */
     TOOLKIT_BUFFER = 256    /* the least buffer that toolkit_system_command takes */
 };
 
@@ -58,7 +59,8 @@ enum toolkit_refusal {
     TOOLKIT_OUTSTANDING = 16,           /* a proactive command is outstanding */
     TOOLKIT_SYSTEM_TYPE = 17,           /* SET UP MENU 25, SET UP EVENT LIST 05, POLL INTERVAL 03, POLLING OFF 04 (hex) */
     TOOLKIT_SHORT_BUFFER = 18,          /* lent buffer under 256 bytes */
-    TOOLKIT_NONE_OUTSTANDING = 19       /* no command outstanding */
+    TOOLKIT_NONE_OUTSTANDING = 19,      /* no command outstanding */
+    TOOLKIT_BAD_DURATION = 20           /* poll request of any other duration than -1, 0 and 1 to 15300 seconds */
 };
 
 /* TS 102 241, clause 6.2. Menu selection, its help request and timer expiration come with rows and timers, and cannot be set. */
@@ -147,8 +149,10 @@ TOOLKIT_LAYOUT(struct toolkit_bank, 8, 1);
 struct toolkit_due {        /* what is due, in the order of handing out */
     bool menu;
     bool events;
+    bool interval;          /* POLL INTERVAL */
+    bool off;               /* POLLING OFF; never both of these */
 };
-TOOLKIT_LAYOUT(struct toolkit_due, 2, 1);
+TOOLKIT_LAYOUT(struct toolkit_due, 4, 1);
 
 struct toolkit_desk {
     struct toolkit_due due;
@@ -158,7 +162,7 @@ struct toolkit_desk {
     uint8_t title[TOOLKIT_TITLE];
     uint8_t profile[TOOLKIT_PROFILE];
 };
-TOOLKIT_LAYOUT(struct toolkit_desk, 57, 1);
+TOOLKIT_LAYOUT(struct toolkit_desk, 59, 1);
 
 struct toolkit_card {
     uint8_t selectable;                     /* set of those that are not locked */
@@ -167,18 +171,20 @@ struct toolkit_card {
     uint8_t made[TOOLKIT_APPLETS];          /* by number, how many of its entries are rows */
     struct toolkit_bank bank;
     struct toolkit_roll roll;
+    uint16_t polls[TOOLKIT_APPLETS];        /* by number, the poll interval that it requests, in seconds; 0: none */
     struct toolkit_rows rows;
     struct toolkit_desk desk;
 };
-TOOLKIT_LAYOUT(struct toolkit_card, 450, 1);
+TOOLKIT_LAYOUT(struct toolkit_card, 468, 2);
 TOOLKIT_FACT(offsetof(struct toolkit_card, selectable) == 0);
 TOOLKIT_FACT(offsetof(struct toolkit_card, registered) == 1);
 TOOLKIT_FACT(offsetof(struct toolkit_card, control) == 21);
 TOOLKIT_FACT(offsetof(struct toolkit_card, made) == 22);
 TOOLKIT_FACT(offsetof(struct toolkit_card, bank) == 30);
 TOOLKIT_FACT(offsetof(struct toolkit_card, roll) == 38);
-TOOLKIT_FACT(offsetof(struct toolkit_card, rows) == 152);
-TOOLKIT_FACT(offsetof(struct toolkit_card, desk) == 393);
+TOOLKIT_FACT(offsetof(struct toolkit_card, polls) == 152);
+TOOLKIT_FACT(offsetof(struct toolkit_card, rows) == 168);
+TOOLKIT_FACT(offsetof(struct toolkit_card, desk) == 409);
 
 /* ---- Answers: with a refusal, all else is 0 or false ---- */
 
@@ -193,7 +199,7 @@ struct toolkit_answer {
     uint8_t refusal;        /* enum toolkit_refusal */
     uint8_t number;         /* new entry: its identifier; allocate timer: the timer; system command: the length written */
     bool says;              /* ask event: yes or no */
-    uint8_t called[TOOLKIT_APPLETS];    /* profile, envelope, settled: whom to call, in this order */
+    uint8_t called[TOOLKIT_APPLETS];    /* profile, envelope, status, settled: whom to call, in this order */
     uint8_t count;                      /* how many of them */
     struct toolkit_marks marks;
 };
@@ -203,7 +209,7 @@ struct toolkit_made {
     struct toolkit_card card;
     uint8_t refusal;
 };
-TOOLKIT_LAYOUT(struct toolkit_made, 451, 1);
+TOOLKIT_LAYOUT(struct toolkit_made, 470, 2);
 
 struct toolkit_spot {       /* a part of the caller's bytes */
     size_t start;
@@ -238,10 +244,10 @@ struct toolkit_made toolkit_fresh(const void *title, size_t title_len);
 /* A new applet, selectable. Refusals 2, 3, 4, 5, 6. */
 struct toolkit_answer toolkit_install(struct toolkit_card *card, uint8_t applet, struct toolkit_request request);
 
-/* Removes an applet with its rows, timers and registrations. Refusal 2. */
+/* Removes an applet with its rows, timers, registrations and poll request. Refusal 2. */
 struct toolkit_answer toolkit_delete(struct toolkit_card *card, uint8_t applet);
 
-/* A locked applet is not called and its rows are not shown. Refusal 2. */
+/* A locked applet is not called, its rows are not shown and its poll request does not count. Refusal 2. */
 struct toolkit_answer toolkit_lock(struct toolkit_card *card, uint8_t applet);
 struct toolkit_answer toolkit_unlock(struct toolkit_card *card, uint8_t applet);
 
@@ -253,6 +259,10 @@ struct toolkit_answer toolkit_clear_event(struct toolkit_card *card, uint8_t app
 
 /* answer.says: the applet is registered for the event. Refusals 2, 7, 8. */
 struct toolkit_answer toolkit_ask_event(struct toolkit_card *card, uint8_t applet, int16_t value);
+
+/* The poll interval that the applet requests: 1 to 15300 seconds; 0: none, as at first; -1: the card's choice, which is none. The terminal
+   is told the smallest of the applets that are not locked, in whole minutes if it is over 255 seconds. Refusals 2, 20. */
+struct toolkit_answer toolkit_request_poll(struct toolkit_card *card, uint8_t applet, int16_t duration);
 
 /* Makes the applet's next entry a row; answer.number is its identifier. Equal texts are rows of their own. Refusals 2, 10, 12. */
 struct toolkit_answer toolkit_new_entry(struct toolkit_card *card, uint8_t applet, bool help, const void *text, size_t text_len);
@@ -277,14 +287,17 @@ struct toolkit_answer toolkit_profile(struct toolkit_card *card, const void *byt
 /* An envelope of the terminal; answer.called are to be called, with the handlers that answer.marks tells. Refusal 1. */
 struct toolkit_answer toolkit_envelope(struct toolkit_card *card, const void *bytes, size_t bytes_len);
 
+/* A STATUS of the terminal; answer.called request a poll interval. No refusal. */
+struct toolkit_answer toolkit_status(struct toolkit_card *card);
+
 /* Everyone called has returned; answer.called waited for the proactive handler. Refusal 16. */
 struct toolkit_answer toolkit_settled(struct toolkit_card *card);
 
 /* An applet's own proactive command, which is outstanding from then on. Refusals 1, 2, 15, 16, 17. */
 struct toolkit_answer toolkit_send(struct toolkit_card *card, uint8_t applet, const void *bytes, size_t bytes_len);
 
-/* Writes the menu or the event list, whichever is due, at the front of the buffer and makes it outstanding; answer.number is its
-   length, at most 250, or 0 where nothing is due. The rest of the buffer stays. Refusals 16, 18. */
+/* Writes the menu, the event list, POLL INTERVAL or POLLING OFF, the first that is due, at the front of the buffer and makes it
+   outstanding; answer.number is its length, at most 250, or 0 where nothing is due. The rest of the buffer stays. Refusals 16, 18. */
 struct toolkit_answer toolkit_system_command(struct toolkit_card *card, uint8_t *buf, size_t buf_len);
 
 /* The terminal's response ends the outstanding command. Refusal 19. */

@@ -1,4 +1,4 @@
-"""Bytes of document 01: elements, envelopes and commands read, system commands written."""
+"""Bytes of documents 01 and 02: elements, envelopes and commands read, system commands written."""
 
 from enum import IntEnum
 from typing import NamedTuple
@@ -25,6 +25,7 @@ class Refusal(IntEnum):
     SYSTEM_TYPE = 17
     BUFFER_TOO_SMALL = 18
     NONE_OUTSTANDING = 19
+    BAD_DURATION = 20
 
 
 class Refused(Exception):
@@ -68,11 +69,12 @@ class Part(NamedTuple):
 TITLE_LIMIT, ROW_LIMIT, TEXT_LIMIT = 20, 12, 15
 PROACTIVE_COMMAND = 0xD0
 MENU_SELECTION, CALL_CONTROL, EVENT_DOWNLOAD, TIMER_EXPIRATION = 0xD3, 0xD4, 0xD6, 0xD7
-COMMAND_DETAILS, DEVICE_IDENTITIES, ALPHA_IDENTIFIER, ITEM = 0x01, 0x02, 0x05, 0x0F
+COMMAND_DETAILS, DEVICE_IDENTITIES, DURATION, ALPHA_IDENTIFIER, ITEM = 0x01, 0x02, 0x04, 0x05, 0x0F
 ITEM_IDENTIFIER, HELP_REQUEST, EVENT_LIST, TIMER_IDENTIFIER = 0x10, 0x15, 0x19, 0x24
 COMPREHENSION = 0x80
 SUBJECT_TAG = {MENU_SELECTION: ITEM_IDENTIFIER, EVENT_DOWNLOAD: EVENT_LIST, TIMER_EXPIRATION: TIMER_IDENTIFIER}
 SET_UP_MENU, SET_UP_EVENT_LIST, POLL_INTERVAL, POLLING_OFF, TIMER_MANAGEMENT = 0x25, 0x05, 0x03, 0x04, 0x27
+IN_MINUTES, IN_SECONDS = 0x00, 0x01
 THREE_BYTES = 0x7F
 SOME_HELP = 0x80
 CARD_TO_TERMINAL = bytes([0x81, 0x82])
@@ -190,6 +192,19 @@ def write_menu(title, items, some_help):
 
 def write_events(codes):
     return system_command(SET_UP_EVENT_LIST, 0, element(EVENT_LIST, bytes(sorted(codes))))
+
+
+def duration_of(seconds):
+    """Unit and count: seconds up to 255, else minutes rounded down."""
+    return (IN_SECONDS, seconds) if seconds <= 0xFF else (IN_MINUTES, seconds // 60)
+
+
+def write_interval(seconds):
+    return system_command(POLL_INTERVAL, 0, element(DURATION, bytes(duration_of(seconds))))
+
+
+def write_polling_off():
+    return system_command(POLLING_OFF, 0, b"")
 
 
 def could_be_menu(title, items, some_help):

@@ -9,14 +9,14 @@ enum { MOST = 4096, GUARD = 64, PAINT = 0xC3 };
 struct request {
     char door[24];                      /* its name behind toolkit_ */
     uint8_t applet, number, help, null; /* number: a row, a timer or a limit; null: what has length 0 is a null pointer */
-    int16_t value;
+    int16_t value;                      /* an event or a duration */
     uint16_t tag;
     uint32_t length, lent;
     uint64_t occurrence;
 };
 
-/* The bytes given and the buffer lent, each between guards; the card stands at an odd place. */
-static struct { uint8_t before[GUARD + 1]; struct toolkit_card card; uint8_t behind[GUARD]; } held;
+/* The card, the bytes given and the buffer lent, each between guards; the card stands two bytes past a multiple of eight. */
+static _Alignas(8) struct { uint8_t before[GUARD + 2]; struct toolkit_card card; uint8_t behind[GUARD]; } held;
 static uint8_t given[GUARD + MOST + GUARD], kept[GUARD + MOST + GUARD], lent[GUARD + MOST + GUARD];
 
 static bool painted(const uint8_t *bytes, size_t length)
@@ -56,6 +56,7 @@ static struct toolkit_answer call(const struct request *r, struct toolkit_card *
     if (is(r, "set_event")) return toolkit_set_event(card, r->applet, r->value);
     if (is(r, "clear_event")) return toolkit_clear_event(card, r->applet, r->value);
     if (is(r, "ask_event")) return toolkit_ask_event(card, r->applet, r->value);
+    if (is(r, "request_poll")) return toolkit_request_poll(card, r->applet, r->value);
     if (is(r, "new_entry")) return toolkit_new_entry(card, r->applet, r->help != 0, bytes, r->length);
     if (is(r, "change_entry")) return toolkit_change_entry(card, r->applet, r->number, r->help != 0, bytes, r->length);
     if (is(r, "enable_entry")) return toolkit_enable_entry(card, r->applet, r->number);
@@ -64,6 +65,7 @@ static struct toolkit_answer call(const struct request *r, struct toolkit_card *
     if (is(r, "release_timer")) return toolkit_release_timer(card, r->applet, r->number);
     if (is(r, "profile")) return toolkit_profile(card, bytes, r->length);
     if (is(r, "envelope")) return toolkit_envelope(card, bytes, r->length);
+    if (is(r, "status")) return toolkit_status(card);
     if (is(r, "settled")) return toolkit_settled(card);
     if (is(r, "send")) return toolkit_send(card, r->applet, bytes, r->length);
     if (is(r, "system_command")) return toolkit_system_command(card, buffer, r->lent);

@@ -4,9 +4,11 @@ import struct
 
 from model import CALL_CONTROL_EVENT
 
-CALLS = ["install", "delete", "lock", "unlock", "set_event", "clear_event", "ask_event", "new_entry", "change_entry", "enable_entry",
-         "disable_entry", "allocate", "release", "profile", "envelope", "settled", "send", "system_command", "response"]
+CALLS = ["install", "delete", "lock", "unlock", "set_event", "clear_event", "ask_event", "request_poll", "new_entry", "change_entry",
+         "enable_entry", "disable_entry", "allocate", "release", "profile", "envelope", "status", "settled", "send", "system_command", "response"]
+OF_NO_APPLET = {"profile", "envelope", "status", "settled", "system_command", "response"}
 NUMBERED = {"change_entry", "enable_entry", "disable_entry", "release"}
+VALUED = {"set_event", "clear_event", "ask_event", "request_poll"}
 DOORS = {"allocate": "allocate_timer", "release": "release_timer"}
 EVENT_PLACES = [1, 7, 8, 9, 11, 12, 13, 14, 15, 16, 17, 18, 20, 21, 25, 26, 28, 29, -1, 123]
 
@@ -20,13 +22,13 @@ def request(door, data=b"", lent=b"", applet=0, number=0, help=0, null=0, value=
 def arguments(name, inputs):
     """The door of a call on a card, and what the door is asked of the call's inputs, but for the buffer that it lends."""
     asked, inputs = {}, list(inputs)
-    if name not in ("profile", "envelope", "settled", "response", "system_command"):
+    if name not in OF_NO_APPLET:
         asked["applet"] = inputs.pop(0)
     if name in NUMBERED:
         asked["number"] = inputs.pop(0)
     if name in ("new_entry", "change_entry"):
         asked["help"] = inputs.pop(0)
-    if name.endswith("_event"):
+    if name in VALUED:
         asked["value"] = inputs.pop(0)
     if name == "install":
         *limits, pairs = inputs
@@ -74,15 +76,17 @@ def registered_bytes(applets):
 
 
 def card_bytes(card):
-    """The 450 bytes of this card: sets and tables by number, timers, the roll, the rows, the terminal's side."""
+    """The 468 bytes of this card: sets and tables by number, timers, the roll, poll requests, the rows, the terminal's side."""
     applets = card.applets
     selectable = number_set(number for number, applet in applets.items() if not applet.locked)
     made = bytes(sum(row.owner == number for row in card.rows) for number in range(1, 9))
     control = [number for number, applet in applets.items() if CALL_CONTROL_EVENT in applet.events] or [0]
+    polls = struct.pack("<8H", *(applets[number].poll if number in applets else 0 for number in range(1, 9)))
     rows = padded([bytes([row.identifier, row.owner, row.help, row.enabled]) + text(row.text, 15) for row in card.rows], 12, 20)
-    desk = bytes([card.menu_due, card.events_due, card.session, card.outstanding, len(card.title)]) + card.title.ljust(20, b"\0")
-    return (bytes([selectable]) + registered_bytes(applets) + bytes(control) + made + bytes(card.owners) + roll_bytes(applets) + rows
-            + desk + card.terminal_profile)
+    due = bytes([card.menu_due, card.events_due, card.interval_due, card.off_due])
+    desk = due + bytes([card.session, card.outstanding, len(card.title)]) + card.title.ljust(20, b"\0") + card.terminal_profile
+    return (bytes([selectable]) + registered_bytes(applets) + bytes(control) + made + bytes(card.owners) + roll_bytes(applets) + polls
+            + rows + desk)
 
 
 def menu_bytes(answer):

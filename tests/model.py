@@ -1,21 +1,22 @@
-"""The card of document 01: each public call changes the card or is refused, and gives one Answer."""
+"""The card of documents 01 and 02: each public call changes the card or is refused, and gives one Answer."""
 
 from dataclasses import dataclass, field
 from functools import wraps
 from typing import NamedTuple
 
+from bank import (APPLET_NUMBERS, FREE, TIMER_LIMIT, TIMER_NUMBERS, bank_allocate, bank_release, give_timer_back,
+                  owns_timer, take_timer)
 from coding import (CALL_CONTROL, EVENT_DOWNLOAD, MENU_SELECTION, POLLING_OFF, POLL_INTERVAL, ROW_LIMIT,
                     SET_UP_EVENT_LIST, SET_UP_MENU, TEXT_LIMIT, TIMER_EXPIRATION, TIMER_MANAGEMENT, TITLE_LIMIT,
                     Answer, Marks, Refusal, Refused, content, find, read_command, read_envelope, read_menu,
-                    refuse_if, write_events, write_menu)
+                    refuse_if, write_events, write_interval, write_menu, write_polling_off)
 
 __all__ = ["Answer", "Card", "Marks", "Refusal", "bank_allocate", "bank_release", "content", "find", "read_menu"]
 
-APPLET_NUMBERS = TIMER_NUMBERS = range(1, 9)
-TIMER_LIMIT, ENTRY_LIMIT, IDENTIFIER_LIMIT = 8, 4, 127
+ENTRY_LIMIT, IDENTIFIER_LIMIT = 4, 127
 GIVEN_IDENTIFIERS = range(128, 256)
 PROFILE_KEPT, BUFFER_NEEDED = 32, 256
-FREE = 0
+CARDS_CHOICE, NO_POLLING, LONGEST_INTERVAL = -1, 0, 15300
 
 PROFILE_DOWNLOAD_EVENT, CALL_CONTROL_EVENT = 1, 9
 PROACTIVE_HANDLER_EVENT, UNRECOGNIZED_EVENT = 123, -1
@@ -35,6 +36,7 @@ class Applet:
     pairs: list
     installed: int
     locked: bool = False
+    poll: int = NO_POLLING
     events: set = field(default_factory=set)
 
 
@@ -46,45 +48,11 @@ class Row(NamedTuple):
     enabled: bool = True
 
 
-def take_timer(owners, applet, limit):
-    refuse_if(owners.count(applet) >= min(limit, TIMER_LIMIT), Refusal.TIMER_LIMIT)
-    free = [timer for timer in TIMER_NUMBERS if owners[timer - 1] not in APPLET_NUMBERS]
-    refuse_if(not free, Refusal.NO_TIMER_FREE)
-    owners[free[0] - 1] = applet
-    return Answer(number=free[0])
-
-
-def give_timer_back(owners, applet, timer):
-    refuse_if(not owns_timer(owners, applet, timer), Refusal.NOT_ITS_TIMER)
-    owners[timer - 1] = FREE
-    return Answer()
-
-
-def owns_timer(owners, applet, timer):
-    return timer in TIMER_NUMBERS and owners[timer - 1] == applet
-
-
-def on_bank(step):
-    """A timer call on a bank of eight owners lent by the caller."""
-    @wraps(step)
-    def call(owners, applet, last):
-        try:
-            refuse_if(applet not in APPLET_NUMBERS, Refusal.NO_APPLET)
-            return step(owners, applet, last)
-        except Refused as refused:
-            return Answer(refused.number)
-    return call
-
-
-bank_allocate = on_bank(take_timer)
-bank_release = on_bank(give_timer_back)
-
-
 def public(step):
-    """A call on the card; in a session an accepted one that changes a shown list marks it due."""
+    """A call on the card; in a session an accepted one that changes a shown list or the poll interval marks it due."""
     @wraps(step)
     def call(card, *inputs):
-        menu, events = card.shown_menu(), card.shown_events()
+        menu, events, interval = card.shown_menu(), card.shown_events(), card.interval()
         try:
             answer = step(card, *inputs) or Answer()
         except Refused as refused:
@@ -92,6 +60,8 @@ def public(step):
         if card.session:
             card.menu_due |= card.shown_menu() != menu
             card.events_due |= card.shown_events() != events
+            if card.interval() != interval:
+                card.interval_due, card.off_due = card.interval() != NO_POLLING, card.interval() == NO_POLLING
         return answer
     return call
 
@@ -105,7 +75,8 @@ class Card:
         self.applets, self.rows, self.owners = {}, [], [FREE] * len(TIMER_NUMBERS)
         self.installs = 0
         self.terminal_profile = bytes(PROFILE_KEPT)
-        self.session = self.outstanding = self.menu_due = self.events_due = False
+        self.session = self.outstanding = False
+        self.menu_due = self.events_due = self.interval_due = self.off_due = False
 
     def shown_menu(self):
         return [row for row in self.rows if row.enabled and not self.applets[row.owner].locked]
@@ -113,6 +84,11 @@ class Card:
     def shown_events(self):
         heard = set().union(*(applet.events for applet in self.applets.values() if not applet.locked))
         return {code for code, event in EVENT_OF_CODE.items() if event in heard}
+
+    def interval(self):
+        """The system's poll interval in seconds: the smallest that a selectable applet requests, or none."""
+        requests = [applet.poll for applet in self.applets.values() if not applet.locked and applet.poll != NO_POLLING]
+        return min(requests, default=NO_POLLING)
 
     def registered(self, event):
         """The selectable applets registered for this event, in calling order."""
@@ -180,6 +156,12 @@ class Card:
         return Answer(yes=event in self.applet_for_event(number, event).events)
 
     @public
+    def request_poll(self, number, duration):
+        applet = self.present(number)
+        refuse_if(not CARDS_CHOICE <= duration <= LONGEST_INTERVAL, Refusal.BAD_DURATION)
+        applet.poll = NO_POLLING if duration == CARDS_CHOICE else duration
+
+    @public
     def new_entry(self, number, help_mark, text):
         applet = self.present(number)
         made = sum(row.owner == number for row in self.rows)
@@ -230,6 +212,7 @@ class Card:
         self.terminal_profile = bytes(data[:PROFILE_KEPT]).ljust(PROFILE_KEPT, b"\0")
         self.session, self.outstanding = True, False
         self.menu_due, self.events_due = bool(self.shown_menu()), bool(self.shown_events())
+        self.interval_due, self.off_due = self.interval() != NO_POLLING, False
         return Answer(called=self.registered(PROFILE_DOWNLOAD_EVENT), marks=Marks(proactive=True))
 
     @public
@@ -248,6 +231,11 @@ class Card:
         if arrival.tag == EVENT_DOWNLOAD:
             return self.registered(EVENT_OF_CODE.get(arrival.subject))
         return self.registered(CALL_CONTROL_EVENT if arrival.tag == CALL_CONTROL else UNRECOGNIZED_EVENT)
+
+    @public
+    def status(self):
+        called = self.in_order(number for number, applet in self.applets.items() if applet.poll != NO_POLLING)
+        return Answer(called=called, marks=Marks(proactive=not self.outstanding))
 
     @public
     def settled(self):
@@ -284,6 +272,12 @@ class Card:
         if self.events_due:
             self.events_due = False
             return write_events(self.shown_events())
+        if self.interval_due:
+            self.interval_due = False
+            return write_interval(self.interval())
+        if self.off_due:
+            self.off_due = False
+            return write_polling_off()
         return b""
 
     @public

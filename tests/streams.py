@@ -15,18 +15,19 @@ LETTER_OF = {"install": "I", "new_entry": "M", "set_event": "E", "clear_event": 
              "delete": "D", "lock": "L", "unlock": "U"}
 WEIGHTS = {"install": 8, "new_entry": 10, "set_event": 10, "clear_event": 3, "profile": 2, "envelope": 14,
            "settled": 5, "system_command": 8, "response": 8, "allocate": 6, "delete": 1, "lock": 4, "unlock": 5}
-BESIDE_FLOOR = {"ask_event": 4, "change_entry": 8, "enable_entry": 5, "disable_entry": 5, "release": 4, "send": 6,
-                "find": 6, "content": 3, "read_menu": 5, "bank_allocate": 4, "bank_release": 3}
+BESIDE_FLOOR = {"ask_event": 4, "request_poll": 8, "status": 4, "change_entry": 8, "enable_entry": 5, "disable_entry": 5,
+                "release": 4, "send": 6, "find": 6, "content": 3, "read_menu": 5, "bank_allocate": 4, "bank_release": 3}
 ON_NO_CARD = ("find", "content", "read_menu", "bank_allocate", "bank_release")
 THEMES = [{},
           {"new_entry": 40, "install": 15, "system_command": 15, "response": 12},
           {"new_entry": 40, "install": 20, "system_command": 20, "delete": 0, "lock": 1, "disable_entry": 1},
           {"allocate": 40, "envelope": 30, "install": 12},
           {"set_event": 30, "settled": 25, "lock": 15, "unlock": 20, "delete": 2},
-          {"lock": 15, "unlock": 15, "system_command": 30, "response": 30, "profile": 6},
+          {"lock": 15, "unlock": 15, "system_command": 30, "response": 30, "profile": 6, "request_poll": 30, "status": 15},
           {"delete": 8, "install": 30, "new_entry": 20, "envelope": 20}]
 POSITIONS = [0, 0, 1, 1, 2, 3, 4, 6, 12, 13, 20, 255]
 PRIORITIES = [5, 5, 5, 1, 2, 200, 255]
+SECONDS = [1, 60, 254, 255, 255, 256, 299, 300, 310, 15299, 15300, 15300]
 
 
 class Draw:
@@ -80,7 +81,7 @@ class Draw:
     def nothing(self):
         return ()
 
-    settled = response = nothing
+    status = settled = response = nothing
 
     def install(self):
         rng, applets = self.rng, self.card.applets
@@ -128,6 +129,16 @@ class Draw:
         return self.number(self.card.applets), odd if one_in(rng, 10) else supported
 
     set_event = clear_event = ask_event = event
+
+    def request_poll(self):
+        """Half of them by those who have a request, mostly to end it, so that few have one and the interval changes."""
+        rng, applets = self.rng, self.card.applets
+        polled = [number for number, applet in applets.items() if applet.poll]
+        if one_in(rng, 12):
+            return self.number(applets), rng.choice([-32768, -2, 15301, 32767, rng.randint(-32768, 32767)])
+        if polled and one_in(rng, 2):
+            return self.number(polled), rng.choice([0, 0, -1, rng.choice(SECONDS)])
+        return self.number(applets), rng.choice(SECONDS)
 
     def profile(self):
         return (self.rng.randbytes(self.rng.choice([0, 1, 1, 2, 20])),)

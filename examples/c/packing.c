@@ -1,4 +1,4 @@
-/* Two packing stations that want a menu entry of the same title, as a card operating system would serve them. */
+/* Two packing stations that want a menu entry of the same title, and a tracker that STATUS wakes, as a card operating system would serve them. */
 #include <stdio.h>
 #include "toolkit.h"
 
@@ -29,6 +29,22 @@ static struct toolkit_answer choose(struct toolkit_card *card, uint8_t identifie
 {
     const uint8_t menu_selection[] = {0xD3, 0x07, 0x82, 0x02, 0x01, 0x81, 0x90, 0x01, identifier};
     return toolkit_envelope(card, menu_selection, sizeof menu_selection);
+}
+
+/* Applet 3 is woken by the terminal's STATUS, which comes every five minutes from the response on. */
+static void track(struct toolkit_card *card)
+{
+    const struct toolkit_request tracker = {.priority = 5};
+    struct toolkit_answer answer;
+    uint8_t buffer[TOOLKIT_BUFFER];
+
+    print_answer("install applet 3", toolkit_install(card, 3, tracker));
+    print_answer("polling for applet 3", toolkit_request_poll(card, 3, 300));
+    answer = toolkit_system_command(card, buffer, sizeof buffer);
+    print_answer("system command", answer);
+    print_hex("poll interval", buffer, answer.number);
+    print_answer("response", toolkit_response(card));
+    print_answer("STATUS", toolkit_status(card));
 }
 
 int main(void)
@@ -62,5 +78,7 @@ int main(void)
     print_answer("it expires", toolkit_envelope(&card, timer_expired, sizeof timer_expired));
     print_answer("released by applet 1", toolkit_release_timer(&card, 1, 1));
     print_answer("released by applet 2", toolkit_release_timer(&card, 2, 1));
+
+    track(&card);
     return 0;
 }

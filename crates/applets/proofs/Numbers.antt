@@ -24,7 +24,7 @@ use Rattle.rules.specs.Holds.{Applet, Bounds, Tables, document}
 use Rattle.rules.specs.Applets.{hasNumber, nobody, present, applet, inOrder}
 use Rattle.runs.specs.Sound.{SoundApplet, SoundTables}
 use Rattle.runs.proofs.Looked.{each-found, absent-nobody, number-from, number-to}
-use Rattle.applets.specs.ByNumber.{at, byNumber, bare, grantOf, rollOf, selectableSet, registeredSet, madeTable}
+use Rattle.applets.specs.ByNumber.{at, byNumber, bare, grantOf, rollOf, selectableSet, registeredSet, madeTable, pollTable}
 use Rattle.applets.proofs.Order.{map-map, map-order}
 
 module _ (l : List Applet) where
@@ -95,6 +95,9 @@ module _ (l : List Applet) (n : ℕ) (f : Applet → Applet) (there : some? (has
         go true x = stays x
         go false x = refl
 
+    table-kept : table 8 (λ i. g (at u (suc i))) ≡ table 8 (λ i. g (at l (suc i)))
+    table-kept = table-alike 8 _ _ (λ i a. field-kept (suc i))
+
   pub selectable-kept : ((x : Applet) → f x .selectable ≡ x .selectable) → selectableSet u ≡ selectableSet l
   unfolding selectableSet
   selectable-kept h = set-alike _ _ (λ k a b. field-kept (λ (x : Applet). x .selectable) h k)
@@ -105,7 +108,11 @@ module _ (l : List Applet) (n : ℕ) (f : Applet → Applet) (there : some? (has
 
   pub made-kept : ((x : Applet) → f x .made ≡ x .made) → madeTable u ≡ madeTable l
   unfolding madeTable
-  made-kept h = table-alike 8 _ _ (λ i a. field-kept (λ (x : Applet). x .made) h (suc i))
+  made-kept h = table-kept (λ (x : Applet). x .made) h
+
+  pub poll-kept : ((x : Applet) → f x .poll ≡ x .poll) → pollTable u ≡ pollTable l
+  unfolding pollTable
+  poll-kept h = table-kept (λ (x : Applet). x .poll) h
 
 -- one of the applets passes where the one with some number does
 module _ (t : Tables) (s : SoundTables t) (e : t .bounds ≡ document) (p : Applet → Bool) (nobody-not : p nobody ≡ false) where

@@ -28,8 +28,9 @@ use Rattle.rules.specs.declared.Roll.{Roll}
 use Rattle.rules.specs.Holds.{Applet}
 use Rattle.rules.specs.Applets.{hasNumber, nobody, inOrder}
 use Rattle.applets.specs.declared.Callees.{Callees}
-use Rattle.applets.specs.ByNumber.{at, grantOf, rollOf, selectableSet, registeredSet, madeTable}
+use Rattle.applets.specs.ByNumber.{at, grantOf, rollOf, selectableSet, registeredSet, madeTable, pollTable, tableWith}
 use Rattle.applets.specs.Rolls.{calleesOf, rollWithout}
+use Rattle.applets.proofs.Made.{with-one}
 use Rattle.applets.proofs.Order.{keep-order, length-order, every-order}
 
 -- the roll by its parts
@@ -101,9 +102,20 @@ module _ (l : List Applet) (n : ℕ) where
   unfolding selectableSet
   selectable-less = turned-without (setOf (λ k. at l k .selectable)) n ∙ set-less (λ (x : Applet). x .selectable) refl
 
-  pub made-less : 1 ≤ n → set (madeTable l) (n - 1) 0 ≡ madeTable less
+  with-less : (f : Applet → ℕ) → tableWith (table 8 (λ i. f (at l (suc i)))) n (f nobody) ≡ table 8 (λ i. f (at less (suc i)))
+  with-less f = with-one (λ k. f (at l k)) _ n (f nobody) (λ k. ap f (at-less k) ∙ go (n == k) (at l k))
+    where
+      go : (b : Bool) (x : Applet) → f (if b then nobody else x) ≡ (if b then f nobody else f x)
+      go true x = refl
+      go false x = refl
+
+  pub made-less : tableWith (madeTable l) n 0 ≡ madeTable less
   unfolding madeTable
-  made-less low = table-less (λ (x : Applet). x .made) low
+  made-less = with-less (λ (x : Applet). x .made)
+
+  pub poll-less : tableWith (pollTable l) n 0 ≡ pollTable less
+  unfolding pollTable
+  poll-less = with-less (λ (x : Applet). x .poll)
 
 -- THE ROLL
 module _ (l : List Applet) (n : ℕ) (low : 1 ≤ n) (in-range : Every (λ (x : Applet). (1 ≤ x .number) × (x .number ≤ 8)) l) where

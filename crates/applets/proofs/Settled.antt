@@ -16,11 +16,11 @@ use Rattle.rules.specs.Holds.{Applet, withEvent}
 use Rattle.rules.specs.Events.{handlerAvailable}
 use Rattle.rules.specs.Applets.{nobody, calledWhenSettled, usedUp}
 use Rattle.runs.proofs.Registered.{used-event}
-use Rattle.applets.specs.ByNumber.{at, bare, rollOf, selectableSet, registeredSet, madeTable}
+use Rattle.applets.specs.ByNumber.{at, bare, rollOf, selectableSet, registeredSet, madeTable, pollTable}
 use Rattle.applets.proofs.Numbers.{roll-same}
 
 -- what it leaves of one applet
-used-kept : {A : Type 0} (g : Applet → A) → ((x : Applet) → g (withEvent handlerAvailable false x) ≡ g x) → (x : Applet) → g (usedUp x) ≡ g x
+pub used-kept : {A : Type 0} (g : Applet → A) → ((x : Applet) → g (withEvent handlerAvailable false x) ≡ g x) → (x : Applet) → g (usedUp x) ≡ g x
 unfolding usedUp
 used-kept g same x = go (calledWhenSettled x)
   where
@@ -39,13 +39,21 @@ module _ (l : List Applet) where
   pub roll-used : rollOf (map usedUp l) ≡ rollOf l
   roll-used = roll-same (map usedUp l) l (bare-used l)
 
+  -- a field that it leaves
+  field-used : {A : Type 0} (g : Applet → A) → ((x : Applet) → g (withEvent handlerAvailable false x) ≡ g x) → (k : ℕ) → g (at (map usedUp l) k) ≡ g (at l k)
+  field-used g same k = ap g (at-used k) ∙ used-kept g same (at l k)
+
   pub made-used : madeTable (map usedUp l) ≡ madeTable l
   unfolding madeTable
-  made-used = table-alike 8 _ _ (λ i h. ap (λ (x : Applet). x .made) (at-used (suc i)) ∙ used-kept (λ (x : Applet). x .made) (λ y. refl) (at l (suc i)))
+  made-used = table-alike 8 _ _ (λ i h. field-used (λ (x : Applet). x .made) (λ y. refl) (suc i))
+
+  pub polls-used : pollTable (map usedUp l) ≡ pollTable l
+  unfolding pollTable
+  polls-used = table-alike 8 _ _ (λ i h. field-used (λ (x : Applet). x .poll) (λ y. refl) (suc i))
 
   pub selectable-used : selectableSet (map usedUp l) ≡ selectableSet l
   unfolding selectableSet
-  selectable-used = set-alike _ _ (λ k a b. ap (λ (x : Applet). x .selectable) (at-used k) ∙ used-kept (λ (x : Applet). x .selectable) (λ y. refl) (at l k))
+  selectable-used = set-alike _ _ (λ k a b. field-used (λ (x : Applet). x .selectable) (λ y. refl) k)
 
   other-used : (e : ℕ) → (e == handlerAvailable) ≡ false → registeredSet (map usedUp l) e ≡ registeredSet l e
   unfolding registeredSet

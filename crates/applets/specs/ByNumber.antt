@@ -23,7 +23,7 @@ byNumber d l n = getD (d ∷ l) n d
 
 -- an applet as it was installed
 abbrev pub bare : Applet → Applet
-bare x = withState x 0 false noEvents
+bare x = withState x 0 false noEvents 0
 
 -- what an applet was installed with
 unfoldable pub grantOf : Applet → Grant
@@ -47,7 +47,8 @@ rollOf l =
       grants = table (document .applets) (λ i. grantOf (at l (suc i)));
     }
 
--- what a call may change of the applets: the selectable ones, those registered for each event, and how many entries each has made
+-- what a call may change of the applets: the selectable ones, those registered for each event, how many entries each has made, and the
+-- poll interval that each requests
 unfoldable pub selectableSet : List Applet → ℕ
 selectableSet l = setOf (λ n. at l n .selectable)
 
@@ -57,13 +58,16 @@ registeredSet l e = setOf (λ n. getD (at l n .events) e false)
 unfoldable pub madeTable : List Applet → List ℕ
 madeTable l = table (document .applets) (λ i. at l (suc i) .made)
 
--- the entries made, with another count for a number; as they were outside 1..8
-unfoldable pub madeWith : List ℕ → (number count : ℕ) → List ℕ
-madeWith made n k = table (document .applets) (λ i. if suc i == n then k else getD made i 0)
+unfoldable pub pollTable : List Applet → List ℕ
+pollTable l = table (document .applets) (λ i. at l (suc i) .poll)
+
+-- a table by number, with another value for a number; as it was outside 1..8
+unfoldable pub tableWith : List ℕ → (number value : ℕ) → List ℕ
+tableWith l n k = table (document .applets) (λ i. if suc i == n then k else getD l i 0)
 
 -- the applet with a number and what it was installed with, in a state
-unfoldable pub appletBy : (number : ℕ) → Grant → (made : ℕ) (selectable : Bool) (events : List Bool) → Applet
-appletBy n g made selectable events =
+unfoldable pub appletBy : (number : ℕ) → Grant → (made : ℕ) (selectable : Bool) (events : List Bool) (poll : ℕ) → Applet
+appletBy n g made selectable events poll =
     record {
       number = n;
       priority = g .priority;
@@ -71,4 +75,5 @@ appletBy n g made selectable events =
       made = made;
       selectable = selectable;
       events = events;
+      poll = poll;
     }

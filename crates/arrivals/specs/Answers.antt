@@ -10,7 +10,7 @@ use Rattle.rules.specs.declared.Due.{Due}
 use Rattle.rules.specs.declared.Marks.{Marks}
 use Rattle.rules.specs.Holds.{Tables, Desk}
 use Rattle.rules.specs.Arrivals.{noMarks}
-use Rattle.rules.specs.Desk.{shownSome, withProfile}
+use Rattle.rules.specs.Desk.{dueAtFirst, withProfile}
 use Rattle.rules.specs.Held.{storedDesk}
 use Rattle.applets.specs.declared.Callees.{Callees}
 
@@ -20,4 +20,4 @@ answering r c marks = record { refusal = r; number = 0; says = false; called = c
 
 -- r is the desk k after a profile, on every card where what is due is what is not empty
 abbrev pub Begins : (bytes : List ℕ) → Due → (k r : held.Desk) → Type 0
-Begins bytes due k r = (t : Tables) (d : Desk) → due ≡ shownSome t → k ≡ storedDesk d → r ≡ storedDesk (withProfile t bytes d)
+Begins bytes due k r = (t : Tables) (d : Desk) → due ≡ dueAtFirst t → k ≡ storedDesk d → r ≡ storedDesk (withProfile t bytes d)

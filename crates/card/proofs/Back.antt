@@ -20,7 +20,7 @@ use Rattle.rules.specs.Rows.{noPair}
 use Rattle.rules.proofs.Held.{rows-back, desk-back}
 use Rattle.runs.specs.Sound.{SoundApplet, Sound}
 use Rattle.runs.proofs.Looked.{each-found}
-use Rattle.applets.specs.ByNumber.{at, grantOf, appletBy, rollOf, selectableSet, registeredSet, madeTable}
+use Rattle.applets.specs.ByNumber.{at, grantOf, appletBy, rollOf, selectableSet, registeredSet, madeTable, pollTable}
 use Rattle.applets.proofs.Numbers.{by-number}
 use Rattle.card.specs.View.{stored, appletOf, view}
 
@@ -47,14 +47,14 @@ module _ (m : Model) (b : Bounds) (n : ℕ) (low : 1 ≤ n) (high : n ≤ 8) whe
   events-back : length (x .events) ≡ 20 → table 20 (λ (e : ℕ). has? (getD (table 20 (registeredSet l)) e 0) n) ≡ x .events
   events-back long = table-alike 20 _ _ events-by ∙ ap (λ (k : ℕ). table k (λ (e : ℕ). getD (x .events) e false)) (sym long) ∙ table-list (x .events) false
 
-  by-itself : (y : Applet) → y .number ≡ n → appletBy n (grantOf y) (y .made) (y .selectable) (y .events) ≡ y
+  by-itself : (y : Applet) → y .number ≡ n → appletBy n (grantOf y) (y .made) (y .selectable) (y .events) (y .poll) ≡ y
   unfolding appletBy grantOf
   by-itself y is = rw (sym is, take-padded 4 noPair (y .limits .pairs)) refl
 
   own : SoundApplet b x → x .number ≡ n → appletOf (stored m) n ≡ x
-  unfolding appletOf stored rollOf selectableSet madeTable
+  unfolding appletOf stored rollOf selectableSet madeTable pollTable
   own s is =
-      rw (grant-back, by-number l (λ (y : Applet). y .made) 0 n low high, has-set (λ (k : ℕ). at l k .selectable) n low high, events-back (s .events)) (by-itself x is)
+      rw (grant-back, by-number l (λ (y : Applet). y .made) 0 n low high, by-number l (λ (y : Applet). y .poll) 0 n low high, has-set (λ (k : ℕ). at l k .selectable) n low high, events-back (s .events)) (by-itself x is)
 
 module _ (m : Model) (sound : Sound m) (e : m .tables .bounds ≡ document) where
   abbrev t : Tables

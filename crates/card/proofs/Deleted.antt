@@ -6,11 +6,13 @@ use mathlib.Core.Path.{_≡_, refl, sym, ap, ap₂, _∙_}
 use mathlib.Core.Bool.{Bool, true, false, not, Bool·beq, _&&_}
 use mathlib.Core.List.{List, map}
 use lib.ListN.{getD}
-use Rattle.lists.specs.Tests.{if_then_else_}
+use borrow.Author.Tests.{eq-eqb}
+use Rattle.lists.specs.Tests.{if_then_else_, _==_}
 use Rattle.lists.specs.Lists.{Every}
 use Rattle.lists.specs.Tables.{table}
 use Rattle.lists.proofs.Every.{every-so}
 use Rattle.sets.specs.Sets.{has?, single, meets, setWithout, switchedSet}
+use Rattle.sets.proofs.Bits.{has-set}
 use Rattle.sets.proofs.LeftOut.{turned-without, meets-without}
 use Rattle.rules.specs.declared.Roll.{Roll}
 use Rattle.rules.specs.declared.Rows.{Rows}
@@ -28,23 +30,25 @@ use Rattle.rules.specs.Step.{step, tablesAfter, adminTables, deskAfter, answer}
 use Rattle.runs.specs.Sound.{SoundApplet, SoundTables}
 use Rattle.runs.proofs.Altered.{admin-sound}
 use Rattle.runs.proofs.Looked.{not-absent}
-use Rattle.applets.specs.ByNumber.{rollOf, selectableSet, registeredSet, madeTable, madeWith}
-use Rattle.applets.proofs.Made.{made-set}
+use Rattle.applets.specs.ByNumber.{rollOf, selectableSet, registeredSet, madeTable, pollTable, tableWith}
 use Rattle.applets.specs.Rolls.{rollWithout}
 use Rattle.lists.proofs.Tables.{table-length}
-use Rattle.applets.proofs.Removed.{registered-less, all-less, selectable-less, made-less, roll-less}
+use Rattle.applets.proofs.Removed.{registered-less, all-less, selectable-less, made-less, poll-less, roll-less}
 use Rattle.menu_shown.specs.Chosen.{hasEnabledRow}
 use Rattle.menu_shown.proofs.MenuByApplets.{delete-menu}
 use Rattle.events_shown.specs.Turns.{anyCode, codeTurns}
+use Rattle.polling.specs.declared.Polling.{Polling}
+use Rattle.polling.specs.Polls.{intervalOf, pollingAfter}
+use Rattle.polling.proofs.ByApplets.{unset-request}
 use Rattle.card.specs.declared.Card.{Card}
 use Rattle.card.specs.declared.Reply.{Reply}
 use Rattle.card.specs.View.{view, stored, Left}
 use Rattle.card.specs.Replies.{replied}
 use Rattle.card.proofs.Left.{left-sound, left-bounds}
-use Rattle.card.proofs.Marks.{menuAndEvents, withBothDue, MenuMark, EventsMark, both-desk}
-use Rattle.card.proofs.Turned.{admin-turns-both}
-use Rattle.card.proofs.Replied.{after-by, plain-reply, refused-stays, card-is, roll-form, selectable-form, registered-form, made-form}
-use Rattle.card.proofs.Present.{present-by, gone-by, low-is, selectable-there}
+use Rattle.card.proofs.Marks.{withDue, MenuMark, EventsMark, PollingMarks, all-desk}
+use Rattle.card.proofs.Polled.{marks-then}
+use Rattle.card.proofs.Replied.{after-by, plain-reply, refused-stays, card-is, roll-form, selectable-form, registered-form, made-form, polls-form}
+use Rattle.card.proofs.Present.{present-by, gone-by, low-is, high-is, selectable-there}
 use Rattle.card.proofs.Listeners.{set-is, codes-by}
 
 module _ (c : Card) (left : Left c) (n : ℕ) (there : has? (c .roll .present) n ≡ true) where
@@ -92,15 +96,26 @@ module _ (c : Card) (left : Left c) (n : ℕ) (there : has? (c .roll .present) n
   unfolding adminTables
   registered-next = ap (map (λ (s : ℕ). setWithout s (single n))) (registered-form c left) ∙ all-less (t .applets) n
 
-  made-next : madeWith (c .made) n 0 ≡ madeTable (u .applets)
-  unfolding madeTable adminTables
-  made-next =
-      let low = low-is c left n there in
-      ap (λ (k : List ℕ). madeWith k n 0) (made-form c left)
-      ∙ sym (made-set (madeTable (t .applets)) (table-length 8 _) n 0 (λ z. omega (arith, low, z)))
-      ∙ made-less (t .applets) n low
+  made-next : tableWith (c .made) n 0 ≡ madeTable (u .applets)
+  unfolding adminTables
+  made-next = ap (λ (k : List ℕ). tableWith k n 0) (made-form c left) ∙ made-less (t .applets) n
+
+  polls-next : tableWith (c .polls) n 0 ≡ pollTable (u .applets)
+  unfolding adminTables
+  polls-next = ap (λ (k : List ℕ). tableWith k n 0) (polls-form c left) ∙ poll-less (t .applets) n
 
   -- the marks
+  gone : has? is n ≡ false
+  gone = has-set (λ k. if k == n then false else has? (c .selectable) k) n (low-is c left n there) (high-is c left n there) ∙ rw (eq-eqb n n refl) refl
+
+  polling-differs
+      : {p : Polling}
+      → p ≡ pollingAfter (c .desk .session) (c .desk .due .interval) (c .desk .due .off) (intervalOf (c .polls) (c .selectable)) (intervalOf (c .polls) is)
+      → PollingMarks (c .desk) t u p
+  polling-differs e =
+      marks-then c left u (admin-sound m (delete n) none-refused sound) bounds-same polls-next selectable-next
+      (e ∙ ap (pollingAfter (c .desk .session) (c .desk .due .interval) (c .desk .due .off) (intervalOf (c .polls) (c .selectable))) (sym (unset-request (c .polls) is n 0 gone)))
+
   menu-differs : (true && (not (Bool·beq (has? (c .selectable) n) false) && hasEnabledRow n (viewRows (c .rows)))) ≡ menuChanges t u
   unfolding view
   menu-differs =
@@ -124,26 +139,28 @@ module _ (c : Card) (left : Left c) (n : ℕ) (there : has? (c .roll .present) n
           ∙ ap₂ meets (sym (set-is c left e (omega arith))) (sym (turned-without (c .selectable) n))
 
   pub removes
-      : {s control : ℕ} {g f : List ℕ} {menu events x y : Bool} {roll : Roll} {rows : Rows} {bank : Bank}
+      : {s control : ℕ} {g f j : List ℕ} {menu events x y : Bool} {p : Polling} {roll : Roll} {rows : Rows} {bank : Bank}
       → s ≡ is
       → menu ≡ (true && (not (Bool·beq (has? (c .selectable) n) false) && hasEnabledRow n (viewRows (c .rows))))
       → events ≡ anyCode (codeTurns (c .registered) (c .selectable) s)
+      → p ≡ pollingAfter (c .desk .session) (c .desk .due .interval) (c .desk .due .off) (intervalOf (c .polls) (c .selectable)) (intervalOf (c .polls) is)
       → MenuMark (c .desk) menu x
       → EventsMark (c .desk) events y
       → roll ≡ rollWithout (c .roll) n
       → g ≡ map (λ (s : ℕ). setWithout s (single n)) (c .registered)
-      → f ≡ madeWith (c .made) n 0
+      → f ≡ tableWith (c .made) n 0
+      → j ≡ tableWith (c .polls) n 0
       → bank .owner ≡ withoutTimers n (c .bank .owner)
       → control ≡ forget n (c .control)
       → rows ≡ storedRows (withoutRows n (viewRows (c .rows)))
       → _≡_ {A = Card}
-      (record { roll = roll; selectable = s; registered = g; made = f; control = control; rows = rows; bank = bank; desk = withBothDue (c .desk) x y })
+      (record { roll = roll; selectable = s; registered = g; made = f; polls = j; control = control; rows = rows; bank = bank; desk = withDue (c .desk) x y (p .interval) (p .off) })
       (stored (record { tables = u; desk = marked t u (m .desk) }))
-  removes ss mv ev mx my rl rg md bk ct rs =
+  removes ss mv ev pv mx my rl rg md pl bk ct rs =
       card-is (record { tables = u; desk = marked t u (m .desk) })
-      (rl ∙ roll-next) (ss ∙ selectable-next) (rg ∙ registered-next) (md ∙ made-next)
+      (rl ∙ roll-next) (ss ∙ selectable-next) (rg ∙ registered-next) (md ∙ made-next) (pl ∙ polls-next)
       (ct ∙ control-next) (rs ∙ rows-next) (bk ∙ timers-next)
-      (both-desk c left u (admin-turns-both t (delete n) ∙ sym (ap₂ menuAndEvents (mv ∙ menu-differs) (ev ∙ ap (λ (k : ℕ). anyCode (codeTurns (c .registered) (c .selectable) k)) ss ∙ events-differ))) mx my)
+      (all-desk c left u (sym (mv ∙ menu-differs)) (sym (ev ∙ ap (λ (k : ℕ). anyCode (codeTurns (c .registered) (c .selectable) k)) ss ∙ events-differ)) mx my (polling-differs pv))
     where
       control-next : forget n (c .control) ≡ u .control
       control-next = unfold adminTables view in refl

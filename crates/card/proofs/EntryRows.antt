@@ -2,7 +2,7 @@
 -- Assumes nothing.
 use Prim.Native.Nat.{ℕ}
 use native.Mathlib.Omega.{arith}
-use mathlib.Core.Path.{_≡_, refl, sym, ap, _∙_}
+use mathlib.Core.Path.{_≡_, refl, sym, ap, subst, _∙_}
 use mathlib.Core.Bool.{Bool, true, false, not, _&&_}
 use mathlib.Core.List.{List, [], _∷_}
 use lib.ListN.{take}
@@ -23,15 +23,14 @@ use Rattle.rules.specs.Holds.{Row, Bounds, Tables, withRows}
 use Rattle.rules.specs.Held.{noRow, viewRows, storedRows, storedAnswer}
 use Rattle.rules.specs.Applets.{nobody, present, applet}
 use Rattle.rules.specs.Rows.{itsRow, withText, withEnabled}
-use Rattle.rules.specs.Desk.{menuChanges, changes, marked}
+use Rattle.rules.specs.Desk.{menuChanges, marked}
 use Rattle.rules.specs.Calls.{EntryCall, entry, changeEntry, accepted, refusedWith}
 use Rattle.rules.specs.Refusals.{line, firstHolding, refusal}
 use Rattle.rules.specs.Step.{step, tablesAfter, deskAfter, entryTables, answer, entryAnswer}
-use Rattle.rules.proofs.DueMarks.{changes-none}
 use Rattle.runs.specs.Sound.{SoundRow, SoundTables}
 use Rattle.runs.proofs.Looked.{sound-applet}
 use Rattle.runs.proofs.Filled.{ChangesEntry, changes-entry}
-use Rattle.applets.specs.ByNumber.{byNumber, grantOf, rollOf, selectableSet, registeredSet, madeTable}
+use Rattle.applets.specs.ByNumber.{byNumber, grantOf, rollOf, selectableSet, registeredSet, madeTable, pollTable}
 use Rattle.menu_shown.proofs.RowTurns.{enabled-shows, text-shows}
 use Rattle.menu_entries.specs.declared.Touched.{Touched}
 use Rattle.menu_entries.specs.ItsRow.{markedBy, rewordedBy}
@@ -43,15 +42,15 @@ use Rattle.card.specs.declared.Reply.{Reply}
 use Rattle.card.specs.View.{view, stored, Left}
 use Rattle.card.specs.Replies.{replied}
 use Rattle.card.proofs.Left.{left-sound, left-bounds}
-use Rattle.card.proofs.Marks.{onlyMenu, withMenuDue, MenuMark, menu-desk}
-use Rattle.card.proofs.Turned.{rows-turn-menu}
-use Rattle.card.proofs.Replied.{tablesBy, after-by, plain-reply, card-is, roll-form, selectable-form, registered-form, made-form, control-form, bank-form}
+use Rattle.card.proofs.Marks.{Turns, withMenuDue, MenuMark, menu-desk}
+use Rattle.card.proofs.Turned.{nothing-turns, rows-turn-menu}
+use Rattle.card.proofs.Replied.{tablesBy, after-by, plain-reply, card-is, roll-form, selectable-form, registered-form, made-form, polls-form, control-form, bank-form}
 use Rattle.card.proofs.Present.{present-by, found-by, grant-is, selectable-there}
 
 -- THE CARD AFTER A CALL ABOUT ENTRIES: the rows, how many entries are made, and whether the menu is due
 abbrev pub withEntries : Card → (made : List ℕ) → Rows → (due : Bool) → Card
 withEntries c made rows due =
-    record { roll = c .roll; selectable = c .selectable; registered = c .registered; made = made; control = c .control; rows = rows; bank = c .bank; desk = withMenuDue (c .desk) due }
+    record { roll = c .roll; selectable = c .selectable; registered = c .registered; made = made; polls = c .polls; control = c .control; rows = rows; bank = c .bank; desk = withMenuDue (c .desk) due }
 
 module _ (c : Card) (left : Left c) (u : Tables) where
   abbrev t : Tables
@@ -61,17 +60,18 @@ module _ (c : Card) (left : Left c) (u : Tables) where
       : rollOf (u .applets) ≡ rollOf (t .applets)
       → selectableSet (u .applets) ≡ selectableSet (t .applets)
       → ((e : ℕ) → registeredSet (u .applets) e ≡ registeredSet (t .applets) e)
+      → pollTable (u .applets) ≡ pollTable (t .applets)
       → u .control ≡ t .control
       → u .timers ≡ t .timers
       → {made : List ℕ} {next : Rows} {turns x : Bool}
       → made ≡ madeTable (u .applets)
       → next ≡ storedRows (u .rows)
-      → changes t u ≡ onlyMenu turns
+      → Turns t u turns false
       → MenuMark (c .desk) turns x
       → withEntries c made next x ≡ stored (record { tables = u; desk = marked t u (view c .desk) })
-  entry-card roll sel reg own timers many rows turns x =
+  entry-card roll sel reg polls own timers many rows turns x =
       card-is (record { tables = u; desk = marked t u (view c .desk) })
-      (roll-form c left ∙ sym roll) (selectable-form c left ∙ sym sel) (registered-form c left ∙ table-alike 20 _ _ (λ e h. sym (reg e))) many
+      (roll-form c left ∙ sym roll) (selectable-form c left ∙ sym sel) (registered-form c left ∙ table-alike 20 _ _ (λ e h. sym (reg e))) many (polls-form c left ∙ sym polls)
       (control-form c left ∙ sym own) rows (bank-form c left ∙ sym timers)
       (menu-desk c left u turns x)
 
@@ -86,18 +86,18 @@ owner-there t s n i its =
 module _ (c : Card) (left : Left c) (n : ℕ) (y : EntryCall) {r : ℕ} (e : r ≡ refusal (view c) (entry y)) (plain : entryAnswer (view c .tables) y ≡ accepted) {a : Answer} (says : a ≡ storedAnswer (refusedWith r))
     {shown x : Bool} (sh : shown ≡ has? (c .selectable) n) (w : Touched) (due : MenuMark (c .desk) (shown && w .turns) x)
   where
-    rows-left : (rows : List Row) → tablesBy (view c) (entry y) r ≡ withRows (view c .tables) rows → changes (view c .tables) (withRows (view c .tables) rows) ≡ onlyMenu (shown && w .turns) → w .rows ≡ storedRows rows
+    rows-left : (rows : List Row) → tablesBy (view c) (entry y) r ≡ withRows (view c .tables) rows → Turns (view c .tables) (withRows (view c .tables) rows) (shown && w .turns) false → w .rows ≡ storedRows rows
         → _≡_ {A = Reply} (record { card = withEntries c (c .made) (w .rows) x; answer = a }) (replied (step (view c) (entry y)))
     unfolding answer deskAfter
     rows-left rows ts turns nx =
         plain-reply (view c) (entry y) e plain
-        (entry-card c left (withRows (view c .tables) rows) refl refl (λ e. refl) refl refl (made-form c left) nx turns due
+        (entry-card c left (withRows (view c .tables) rows) refl refl (λ e. refl) refl refl refl (made-form c left) nx turns due
         ∙ ap stored (sym (after-by (view c) (entry y) e refl ts)))
         says
 
     rows-kept : (r ≡ 0 → ⊥) → w .rows ≡ storedRows (view c .tables .rows) → w .turns ≡ false → _≡_ {A = Reply} (record { card = withEntries c (c .made) (w .rows) x; answer = a }) (replied (step (view c) (entry y)))
     rows-kept z nx still =
-        rows-left (view c .tables .rows) (rw (ne-eqb r 0 z) refl) (changes-none (view c .tables) ∙ ap onlyMenu (sym (ap (λ (b : Bool). shown && b) still ∙ and-false shown))) nx
+        rows-left (view c .tables .rows) (rw (ne-eqb r 0 z) refl) (subst (λ (b : Bool). Turns (view c .tables) (view c .tables) b false) (sym (ap (λ (b : Bool). shown && b) still ∙ and-false shown)) (nothing-turns (view c .tables))) nx
 
     rows-changed
         : r ≡ 0
@@ -110,7 +110,7 @@ module _ (c : Card) (left : Left c) (n : ℕ) (y : EntryCall) {r : ℕ} (e : r �
     unfolding tablesAfter
     rows-changed z rows here ts shows nx =
         rows-left rows (ap (tablesBy (view c) (entry y)) z ∙ ts)
-        (rows-turn-menu (view c .tables) rows ∙ ap onlyMenu (shows ∙ ap (λ (b : Bool). b && w .turns) (sym (sh ∙ selectable-there c left n here)))) nx
+        (subst (λ (b : Bool). Turns (view c .tables) (withRows (view c .tables) rows) b false) (shows ∙ ap (λ (b : Bool). b && w .turns) (sym (sh ∙ selectable-there c left n here))) (rows-turn-menu (view c .tables) rows)) nx
 
 -- what acceptance says
 two-lines : (there its : Bool) → firstHolding (line 2 (not there) ∷ line 11 (not its) ∷ []) ≡ 0 → its ≡ true

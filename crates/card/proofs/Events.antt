@@ -2,7 +2,7 @@
 -- Assumes nothing.
 use Prim.Native.Nat.{ℕ, _≤_, _<_}
 use native.Mathlib.Omega.{arith}
-use mathlib.Core.Path.{_≡_, refl, sym, ap, _∙_}
+use mathlib.Core.Path.{_≡_, refl, sym, ap, subst, _∙_}
 use mathlib.Core.Bool.{Bool, true, false, not, _&&_}
 use mathlib.Core.List.{List, [], _∷_}
 use lib.IntN.{ℤ}
@@ -25,17 +25,16 @@ use Rattle.rules.specs.Holds.{Applet, Tables, Model, withApplets, withControl, 
 use Rattle.rules.specs.Events.{kindOf, callControl, isControl}
 use Rattle.rules.specs.Applets.{hasNumber, present, applet, forget, register, withRegistration, ownedByAnother}
 use Rattle.rules.specs.Calls.{EventCall, event, setEvent, clearEvent, accepted, refusedWith}
-use Rattle.rules.specs.Desk.{eventsChange, changes, marked}
+use Rattle.rules.specs.Desk.{eventsChange, marked}
 use Rattle.rules.specs.Refusals.{line, lines, absent, eventLines, refusal}
 use Rattle.rules.specs.Step.{step, tablesAfter, eventTables, deskAfter, answer, eventAnswer}
-use Rattle.rules.proofs.DueMarks.{changes-none}
 use Rattle.events.specs.Place.{placeOf}
 use Rattle.events.proofs.Places.{place-within}
 use Rattle.runs.specs.Sound.{SoundTables}
 use Rattle.runs.proofs.Looked.{sound-applet}
 use Rattle.runs.proofs.Registered.{changed-sound}
-use Rattle.applets.specs.ByNumber.{at, rollOf, selectableSet, registeredSet, madeTable}
-use Rattle.applets.proofs.Numbers.{at-change, roll-kept, selectable-kept, registered-kept, made-kept}
+use Rattle.applets.specs.ByNumber.{at, rollOf, selectableSet, registeredSet, madeTable, pollTable}
+use Rattle.applets.proofs.Numbers.{at-change, roll-kept, selectable-kept, registered-kept, made-kept, poll-kept}
 use Rattle.events_shown.specs.Turns.{isDownload, eventsTurn}
 use Rattle.events_shown.proofs.Quiet.{control-events}
 use Rattle.refusals.proofs.Calls.{eventRefusal, event-known}
@@ -46,8 +45,8 @@ use Rattle.card.specs.Replies.{replied}
 use Rattle.rules.specs.Held.{storedAnswer}
 use Rattle.card.specs.Turns.{setAfter, ownerAfter}
 use Rattle.card.proofs.Left.{left-sound, left-bounds}
-use Rattle.card.proofs.Marks.{onlyEvents, withEventsDue, EventsMark, events-desk}
-use Rattle.card.proofs.Turned.{registration-turns-events}
+use Rattle.card.proofs.Marks.{Turns, withEventsDue, EventsMark, events-desk}
+use Rattle.card.proofs.Turned.{nothing-turns, registration-turns-events}
 use Rattle.card.proofs.Present.{present-by, found-by}
 use Rattle.card.proofs.Listeners.{set-is, event-by}
 use Rattle.card.proofs.Replied.{tablesBy, after-by, plain-reply, next-card, selectable-form, registered-form, control-form}
@@ -68,7 +67,7 @@ turn-refusal-is m n v false e f = rw (e, ← not-not (absent (m .tables) n), f) 
 -- THE CARD AFTER A CALL ABOUT EVENTS: who is registered, the owner of call control, and whether the event list is due
 abbrev withEvents : Card → (registered : List ℕ) → (control : ℕ) → (due : Bool) → Card
 withEvents c registered control due =
-    record { roll = c .roll; selectable = c .selectable; registered = registered; made = c .made; control = control; rows = c .rows; bank = c .bank; desk = withEventsDue (c .desk) due }
+    record { roll = c .roll; selectable = c .selectable; registered = registered; made = c .made; polls = c .polls; control = control; rows = c .rows; bank = c .bank; desk = withEventsDue (c .desk) due }
 
 module _ (c : Card) (left : Left c) (u : Tables) where
   abbrev t : Tables
@@ -78,16 +77,17 @@ module _ (c : Card) (left : Left c) (u : Tables) where
       : rollOf (u .applets) ≡ rollOf (t .applets)
       → selectableSet (u .applets) ≡ selectableSet (t .applets)
       → madeTable (u .applets) ≡ madeTable (t .applets)
+      → pollTable (u .applets) ≡ pollTable (t .applets)
       → u .rows ≡ t .rows
       → u .timers ≡ t .timers
       → {g : List ℕ} {o : ℕ} {due turns : Bool}
       → g ≡ table 20 (registeredSet (u .applets))
       → o ≡ u .control
-      → changes t u ≡ onlyEvents turns
+      → Turns t u false turns
       → EventsMark (c .desk) turns due
       → withEvents c g o due ≡ stored (record { tables = u; desk = marked t u (view c .desk) })
-  events-card roll sel made rows timers reg own turns due =
-      next-card c left u roll made rows timers (selectable-form c left ∙ sym sel) reg own (events-desk c left u turns due)
+  events-card roll sel made polls rows timers reg own turns due =
+      next-card c left u roll made polls rows timers (selectable-form c left ∙ sym sel) reg own (events-desk c left u turns due)
 
 -- a set that stays turns nothing
 unturned : (p was s : ℕ) → false ≡ eventsTurn p was was s
@@ -145,13 +145,16 @@ module _ (c : Card) (left : Left c) (n p : ℕ) (on : Bool) (within : p < 20) (t
   made-same : madeTable next ≡ madeTable l
   made-same = made-kept l n (withEvent p on) here (λ x. refl) (λ x. refl)
 
+  polls-same : pollTable next ≡ pollTable l
+  polls-same = poll-kept l n (withEvent p on) here (λ x. refl) (λ x. refl)
+
   selectable-same : selectableSet next ≡ selectableSet l
   selectable-same = selectable-kept l n (withEvent p on) here (λ x. refl) (λ x. refl)
 
   sound-next : SoundTables (withApplets (view c .tables) next)
   sound-next =
       changed-sound (view c .tables) n (withEvent p on)
-      (λ x. record { number = refl; priority = refl; limits = refl; made = refl; events = length-set (x .events) p on }) (left-sound c left .tables)
+      (λ x. record { number = refl; priority = refl; limits = refl; made = refl; events = length-set (x .events) p on; poll = λ h. h }) (left-sound c left .tables)
 
   events-differ : eventsTurn p was (switchedSet was n on) (c .selectable) ≡ eventsChange (view c .tables) (withApplets (view c .tables) next)
   events-differ =
@@ -237,8 +240,8 @@ module _
             let own : o ≡ c .control = owns ∙ rw z refl in
             let tables : tablesBy m (event call) r ≡ m .tables = rw z refl in
             rw tables
-            (events-card c left (m .tables) refl refl refl refl refl
-            (sets-stay same) (own ∙ control-form c left) (changes-none (m .tables) ∙ ap onlyEvents (sym (turns-none same))) marks)
+            (events-card c left (m .tables) refl refl refl refl refl refl
+            (sets-stay same) (own ∙ control-form c left) (subst (Turns (m .tables) (m .tables) false) (sym (turns-none same)) (nothing-turns (m .tables))) marks)
 
         when-control : (r == 0) ≡ true → (p == callControl) ≡ true → After g o due (tablesBy m (event call) r)
         when-control z q =
@@ -247,9 +250,9 @@ module _
             let u = withControl (m .tables) (if on then n else forget n (m .tables .control)) in
             let is : withRegistration (m .tables) n p on ≡ u = by-owner (m .tables) n p on q in
             rw (accepted-tables (eqb-true r 0 z), is)
-            (events-card c left u refl refl refl refl refl
+            (events-card c left u refl refl refl refl refl refl
             (sets-stay same) (own ∙ ap (λ (j : ℕ). if on then n else forget n j) (control-form c left))
-            (rw is at (registration-turns-events (m .tables) n p on) ∙ ap onlyEvents (control-events (m .tables) (if on then n else forget n (m .tables .control)) ∙ sym (turns-none same))) marks)
+            (subst (Turns (m .tables) u false) (control-events (m .tables) (if on then n else forget n (m .tables .control)) ∙ sym (turns-none same)) (rw is at (registration-turns-events (m .tables) n p on))) marks)
 
         when-event : (r == 0) ≡ true → (p == callControl) ≡ false → After g o due (tablesBy m (event call) r)
         when-event z q =
@@ -260,9 +263,9 @@ module _
             let here′ : present (m .tables) n ≡ true = is-here (eqb-true r 0 z) in
             rw (accepted-tables (eqb-true r 0 z), is)
             (events-card c left u (roll-same c left n p on in-table here′) (selectable-same c left n p on in-table here′) (made-same c left n p on in-table here′)
-            refl refl
+            (polls-same c left n p on in-table here′) refl refl
             (ap (set (c .registered) p) turns-to ∙ sets-are c left n p on in-table here′) (own ∙ control-form c left)
-            (rw is at (registration-turns-events (m .tables) n p on) ∙ ap onlyEvents (sym (ev ∙ ap (λ (s : ℕ). eventsTurn p was′ s (c .selectable)) turns-to ∙ events-differ c left n p on in-table here′))) marks)
+            (subst (Turns (m .tables) u false) (sym (ev ∙ ap (λ (s : ℕ). eventsTurn p was′ s (c .selectable)) turns-to ∙ events-differ c left n p on in-table here′)) (rw is at (registration-turns-events (m .tables) n p on))) marks)
 
         card-after : After g o due (tablesBy m (event call) r)
         card-after = go (r == 0) (p == callControl) refl refl

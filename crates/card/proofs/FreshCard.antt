@@ -22,7 +22,7 @@ use Rattle.rules.specs.Refusals.{line, firstHolding}
 use Rattle.rules.specs.Beside.{freshCard, freshBy}
 use Rattle.rules.specs.Runs.{cardAfter}
 use Rattle.refusals.proofs.Calls.{title-short}
-use Rattle.applets.specs.ByNumber.{rollOf, selectableSet, registeredSet, madeTable}
+use Rattle.applets.specs.ByNumber.{rollOf, selectableSet, registeredSet, madeTable, pollTable}
 use Rattle.card.specs.declared.Card.{Card}
 use Rattle.card.specs.declared.Reply.{Reply}
 use Rattle.card.specs.View.{stored, Left}
@@ -42,14 +42,15 @@ module _ (title : List ℕ) where
         selectable = 0;
         registered = replicate 20 0;
         made = replicate 8 0;
+        polls = replicate 8 0;
         control = 0;
         rows = r;
         bank = record { owner = replicate 8 0 };
         desk = record { due = nothingDue; session = false; outstanding = false; «title_len» = length title; title = t; profile = replicate 32 0 };
       })
       (stored (fresh document title))
-  unfolding selectableSet registeredSet madeTable setOf valued numbers table first storedDesk
-  fresh-is p q s = card-is (fresh document title) p refl refl refl refl q refl (rw s refl)
+  unfolding selectableSet registeredSet madeTable pollTable setOf valued numbers table first storedDesk
+  fresh-is p q s = card-is (fresh document title) p refl refl refl refl refl q refl (rw s refl)
 
   module _ {r n : ℕ} (e : r ≡ firstHolding (line 12 (20 <? length title) ∷ [])) (kept : n ≡ (if r == 0 then length title else 0)) where
     -- what is kept of the title: all, or nothing where it is refused

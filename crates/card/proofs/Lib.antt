@@ -4,16 +4,19 @@ pub mod Left
 pub mod Replied
 pub mod Marks
 pub mod Turned
+pub mod Polled
 pub mod Order
 pub mod Present
 pub mod Listeners
 pub mod Locks
 pub mod Events
 pub mod Asking
+pub mod Requests
 pub mod Deleted
 pub mod Timers
 pub mod Sends
 pub mod FreshCard
+pub mod Written
 pub mod Handed
 pub mod EntryRows
 pub mod NewEntry
@@ -22,3 +25,4 @@ pub mod Calling
 pub mod Settled
 pub mod Profile
 pub mod Envelope
+pub mod Status

@@ -22,19 +22,21 @@ use Rattle.rules.specs.Refusals.{lines, firstHolding, absent, adminLines, refus
 use Rattle.rules.specs.Step.{step, outcome, tablesAfter, adminTables, deskAfter, answer}
 use Rattle.runs.proofs.AlreadySo.{lock-a-locked-one, unlock-a-selectable-one}
 use Rattle.runs.proofs.Registered.{changed-sound, selectable-same}
-use Rattle.applets.specs.ByNumber.{at, selectableSet, registeredSet}
-use Rattle.applets.proofs.Numbers.{at-change, roll-kept, registered-kept, made-kept}
+use Rattle.applets.specs.ByNumber.{at, selectableSet, registeredSet, pollTable}
+use Rattle.applets.proofs.Numbers.{at-change, roll-kept, registered-kept, made-kept, poll-kept}
 use Rattle.menu_shown.specs.Chosen.{hasEnabledRow}
 use Rattle.menu_shown.proofs.MenuByApplets.{lock-menu}
 use Rattle.events_shown.specs.Turns.{anyCode, codeTurns}
+use Rattle.polling.specs.declared.Polling.{Polling}
+use Rattle.polling.specs.Polls.{intervalOf, pollingAfter}
 use Rattle.card.specs.declared.Card.{Card}
 use Rattle.card.specs.declared.Reply.{Reply}
 use Rattle.card.specs.View.{view, stored, Left}
 use Rattle.card.specs.Replies.{replied}
 use Rattle.card.proofs.Left.{left-form, left-sound, left-bounds}
-use Rattle.card.proofs.Replied.{tablesBy, after-by, plain-reply, next-card, registered-form, control-form}
-use Rattle.card.proofs.Marks.{menuAndEvents, withBothDue, MenuMark, EventsMark, both-desk}
-use Rattle.card.proofs.Turned.{admin-turns-both}
+use Rattle.card.proofs.Replied.{tablesBy, after-by, plain-reply, next-card, registered-form, polls-form, control-form}
+use Rattle.card.proofs.Marks.{withDue, MenuMark, EventsMark, PollingMarks, all-desk}
+use Rattle.card.proofs.Polled.{marks-then}
 use Rattle.card.proofs.Present.{present-by, gone-by, selectable-has, selectable-there}
 use Rattle.card.proofs.Listeners.{set-is, codes-by}
 
@@ -81,6 +83,16 @@ module _ (c : Card) (left : Left c) (n : ℕ) (on : Bool) (there : present (view
       codes-by c left u (changed-sound t n (withSelectable on) (selectable-same on) (left-sound c left .tables)) (left-bounds c left) (switchedSet (c .selectable) n on)
       (λ e h. ap₂ meets (registered-same e ∙ sym (set-is c left e (omega arith))) (sym selectable-turned))
 
+  polls-same : pollTable next ≡ pollTable l
+  polls-same = poll-kept l n (withSelectable on) here (λ x. refl) (λ x. refl)
+
+  polling-differs
+      : {p : Polling}
+      → p ≡ pollingAfter (c .desk .session) (c .desk .due .interval) (c .desk .due .off) (intervalOf (c .polls) (c .selectable)) (intervalOf (c .polls) (switchedSet (c .selectable) n on))
+      → PollingMarks (c .desk) t u p
+  polling-differs =
+      marks-then c left u (changed-sound t n (withSelectable on) (selectable-same on) (left-sound c left .tables)) (left-bounds c left) (polls-form c left ∙ sym polls-same) selectable-turned
+
   menu-differs : (not (Bool·beq (has? (c .selectable) n) on) && hasEnabledRow n (viewRows (c .rows))) ≡ menuChanges t u
   unfolding view
   menu-differs =
@@ -124,18 +136,19 @@ module _ (c : Card) (left : Left c) (n : ℕ) (on : Bool) {there : Bool} (found 
 
   -- the lock turns
   pub lock-turned
-      : {k : Card} {s : ℕ} {menu events x y : Bool} {a : Answer}
+      : {k : Card} {s : ℕ} {menu events x y : Bool} {p : Polling} {a : Answer}
       → (there && not (Bool·beq (has? (c .selectable) n) on)) ≡ true
       → s ≡ switchedSet (c .selectable) n on
       → menu ≡ (there && (not (Bool·beq (has? (c .selectable) n) on) && hasEnabledRow n (viewRows (c .rows))))
       → events ≡ anyCode (codeTurns (c .registered) (c .selectable) s)
+      → p ≡ pollingAfter (c .desk .session) (c .desk .due .interval) (c .desk .due .off) (intervalOf (c .polls) (c .selectable)) (intervalOf (c .polls) (switchedSet (c .selectable) n on))
       → MenuMark (c .desk) menu x
       → EventsMark (c .desk) events y
-      → k ≡ record { roll = c .roll; selectable = s; registered = c .registered; made = c .made; control = c .control; rows = c .rows; bank = c .bank; desk = withBothDue (c .desk) x y }
+      → k ≡ record { roll = c .roll; selectable = s; registered = c .registered; made = c .made; polls = c .polls; control = c .control; rows = c .rows; bank = c .bank; desk = withDue (c .desk) x y (p .interval) (p .off) }
       → a ≡ storedAnswer (refusedWith r)
       → Says k a
   unfolding tablesAfter present
-  lock-turned turns sets mv ev mx my is e =
+  lock-turned turns sets mv ev pv mx my is e =
       let h = and-left there (not (Bool·beq (has? (c .selectable) n) on)) turns in
       let z : r ≡ 0 = refused ∙ rw h refl in
       let is-here : present (m .tables) n ≡ true = sym (found ∙ present-by c left n) ∙ h in
@@ -148,11 +161,12 @@ module _ (c : Card) (left : Left c) (n : ℕ) (on : Bool) {there : Bool} (found 
       ∙ next-card c left u
       (roll-kept l n (withSelectable on) is-here (λ k. refl))
       (made-kept l n (withSelectable on) is-here (λ k. refl) (λ k. refl))
+      (polls-same c left n on is-here)
       refl refl
       (sets ∙ selectable-turned c left n on is-here)
       (registered-form c left ∙ table-alike 20 _ _ (λ e k. sym (registered-same c left n on is-here e)))
       (control-form c left)
-      (both-desk c left u (rw (tables-are on) at (admin-turns-both (m .tables) (locking on n)) ∙ sym (ap₂ menuAndEvents menu-is events-are)) mx my)
+      (all-desk c left u (sym menu-is) (sym events-are) mx my (polling-differs c left n on is-here pv))
       ∙ ap stored (sym (after-by m (admin (locking on n)) refusal-is still (ap (tablesBy m (admin (locking on n))) z ∙ tables-are on))))
       e
 

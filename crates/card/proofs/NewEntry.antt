@@ -2,8 +2,8 @@
 -- Assumes nothing.
 use Prim.Native.Nat.{ℕ, zero, suc, _+_, _<_}
 use native.Mathlib.Omega.{arith}
-use mathlib.Core.Path.{_≡_, refl, sym, ap, ap₂, _∙_}
-use mathlib.Core.Bool.{Bool, not}
+use mathlib.Core.Path.{_≡_, refl, sym, ap, ap₂, subst, _∙_}
+use mathlib.Core.Bool.{Bool, not, false}
 use mathlib.Core.List.{List, [], _∷_}
 use lib.ListN.{length, take, getD}
 use lib.Seq.{take-all}
@@ -24,8 +24,8 @@ use Rattle.runs.specs.Sound.{SoundTables}
 use Rattle.runs.proofs.Looked.{has-its-number, sound-applet}
 use Rattle.runs.proofs.Filled.{NewEntry, new-entry}
 use Rattle.runs.proofs.Room.{entry-room}
-use Rattle.applets.specs.ByNumber.{byNumber, grantOf, madeWith}
-use Rattle.applets.proofs.Numbers.{roll-kept, selectable-kept, registered-kept}
+use Rattle.applets.specs.ByNumber.{byNumber, grantOf, tableWith}
+use Rattle.applets.proofs.Numbers.{roll-kept, selectable-kept, registered-kept, poll-kept}
 use Rattle.applets.proofs.Made.{made-more, pair-next}
 use Rattle.menu.proofs.Tidy.{inserted-room}
 use Rattle.menu_entries.specs.declared.Added.{Added}
@@ -39,7 +39,7 @@ use Rattle.card.specs.Replies.{replied}
 use Rattle.card.proofs.Left.{left-sound, left-bounds}
 use Rattle.card.proofs.Replied.{replies, tablesBy, after-by, refused-stays, made-form}
 use Rattle.card.proofs.Present.{found-by, grant-is, made-is, selectable-there}
-use Rattle.card.proofs.Marks.{onlyMenu, MenuMark}
+use Rattle.card.proofs.Marks.{Turns, MenuMark}
 use Rattle.card.proofs.Turned.{new-entry-turns-menu}
 use Rattle.card.proofs.EntryRows.{withEntries, entry-card}
 
@@ -116,7 +116,7 @@ module _ (c : Card) (left : Left c) (n : ℕ) (help : Bool) (text : List ℕ) {t
           → a ≡ storedAnswer (if r == 0 then numbered i else refusedWith r)
           → p ≡ getD (g .pairs) k noPair
           → e ≡ enteredBy p n help text (viewRows (c .rows))
-          → more ≡ madeWith (c .made) n (k + 1)
+          → more ≡ tableWith (c .made) n (k + 1)
           → turns ≡ has? (c .selectable) n
           → MenuMark (c .desk) turns y
           → s ≡ withEntries c more (e .rows) y
@@ -135,10 +135,11 @@ module _ (c : Card) (left : Left c) (n : ℕ) (help : Bool) (text : List ℕ) {t
           (roll-kept l n withOneMore here (λ x. refl))
           (selectable-kept l n withOneMore here (λ x. refl) (λ x. refl))
           (λ e. registered-kept l n withOneMore here (λ x. refl) e (λ x. refl))
+          (poll-kept l n withOneMore here (λ x. refl) (λ x. refl))
           refl refl
-          (mm ∙ ap₂ (λ (h : List ℕ) (m : ℕ). madeWith h n m) (made-form c left) one ∙ made-more l n here)
+          (mm ∙ ap₂ (λ (h : List ℕ) (m : ℕ). tableWith h n m) (made-form c left) one ∙ made-more l n here)
           (ap (λ (h : Added). h .rows) both)
-          (new-entry-turns-menu t (sound .numbers-apart) n here help text ∙ ap onlyMenu (sym (tu ∙ selectable-there c left n here)))
+          (subst (λ (b : Bool). Turns t u b false) (sym (tu ∙ selectable-there c left n here)) (new-entry-turns-menu t (sound .numbers-apart) n here help text))
           y
           ∙ ap stored (sym (after-by (view c) (entry (newEntry n help text)) is-new refl (ap (tablesBy (view c) (entry (newEntry n help text))) z))))
           (gives-number (λ h. ii ∙ ap (λ (h : Added). h .identifier) both) says)

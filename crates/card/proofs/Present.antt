@@ -13,12 +13,12 @@ use Rattle.rules.specs.Holds.{Applet, Bounds}
 use Rattle.rules.specs.Applets.{nobody, present, applet}
 use Rattle.rules.specs.Refusals.{absent}
 use Rattle.runs.proofs.Looked.{number-from, number-to, absent-is}
-use Rattle.applets.specs.ByNumber.{at, byNumber, grantOf, rollOf, selectableSet, madeTable}
+use Rattle.applets.specs.ByNumber.{at, byNumber, grantOf, rollOf, selectableSet, madeTable, pollTable}
 use Rattle.applets.proofs.Numbers.{by-any, present-in}
 use Rattle.card.specs.declared.Card.{Card}
 use Rattle.card.specs.View.{view, Left}
 use Rattle.card.proofs.Left.{left-sound, left-bounds}
-use Rattle.card.proofs.Replied.{roll-form, selectable-form, made-form}
+use Rattle.card.proofs.Replied.{roll-form, selectable-form, made-form, polls-form, polls-form}
 
 -- whether an applet is there, by the set of those present
 pub present-by : (c : Card) (left : Left c) (n : ℕ) → has? (c .roll .present) n ≡ present (view c .tables) n
@@ -32,7 +32,7 @@ gone-by c left n found = absent-is (view c .tables) (left-sound c left .tables) 
 pub found-by : (c : Card) (left : Left c) (n : ℕ) {there : Bool} → there ≡ has? (c .roll .present) n → there ≡ not (absent (view c .tables) n)
 found-by c left n {there} found = not-not there ∙ ap not (sym (gone-by c left n found))
 
--- what an applet was installed with, and how many entries it has made, by its number
+-- what an applet was installed with, how many entries it has made, and what it requests, by its number
 module _ (c : Card) (left : Left c) (n : ℕ) where
   pub grant-is : byNumber (grantOf nobody) (c .roll .grants) n ≡ grantOf (applet (view c .tables) n)
   unfolding rollOf applet
@@ -45,6 +45,12 @@ module _ (c : Card) (left : Left c) (n : ℕ) where
   made-is =
       ap (λ (l : List ℕ). byNumber 0 l n) (made-form c left)
       ∙ by-any (view c .tables) (left-sound c left .tables) (left-bounds c left) (λ (x : Applet). x .made) n
+
+  pub poll-is : byNumber 0 (c .polls) n ≡ applet (view c .tables) n .poll
+  unfolding pollTable applet
+  poll-is =
+      ap (λ (l : List ℕ). byNumber 0 l n) (polls-form c left)
+      ∙ by-any (view c .tables) (left-sound c left .tables) (left-bounds c left) (λ (x : Applet). x .poll) n
 
 -- a number that is there is one of 1 to 8
 module _ (c : Card) (left : Left c) (n : ℕ) (there : has? (c .roll .present) n ≡ true) where

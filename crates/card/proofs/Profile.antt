@@ -3,7 +3,7 @@
 use Prim.Native.Nat.{ℕ, suc}
 use native.Mathlib.Omega.{arith}
 use mathlib.Core.Path.{_≡_, refl, sym, ap, ap₂, _∙_}
-use mathlib.Core.Bool.{Bool, false}
+use mathlib.Core.Bool.{Bool, false, not}
 use mathlib.Core.List.{List, [], _∷_}
 use lib.ListN.{length, take, getD}
 use borrow.Author.Tests.{ne-eqb}
@@ -19,7 +19,7 @@ use Rattle.rules.specs.Held.{viewRows, storedAnswer}
 use Rattle.rules.specs.Events.{profileDownload}
 use Rattle.rules.specs.Arrivals.{called, profileArrival, otherMarks}
 use Rattle.rules.specs.Calls.{Call, arrival, profile, calling}
-use Rattle.rules.specs.Desk.{shownSome, withProfile}
+use Rattle.rules.specs.Desk.{isPolled, dueAtFirst, withProfile}
 use Rattle.rules.specs.Refusals.{line, firstHolding, lines, arrivalLines, refusal}
 use Rattle.rules.specs.Step.{step, outcome, changed, tablesAfter, deskAfter, arrivalDesk, answer, arrivalAnswer}
 use Rattle.rules.proofs.DueMarks.{marked-same}
@@ -27,6 +27,7 @@ use Rattle.menu_shown.specs.Chosen.{hasShownRow}
 use Rattle.menu_shown.proofs.BySet.{menu-shown}
 use Rattle.events_shown.specs.Turns.{anyCode, isListened}
 use Rattle.events_shown.proofs.Shown.{codes-shown}
+use Rattle.polling.specs.Polls.{intervalOf}
 use Rattle.applets.specs.declared.Callees.{Callees}
 use Rattle.applets.specs.Rolls.{calleesOf}
 use Rattle.arrivals.specs.Whom.{calledSet}
@@ -37,7 +38,8 @@ use Rattle.card.specs.declared.Reply.{Reply}
 use Rattle.card.specs.View.{view, Left}
 use Rattle.card.specs.Replies.{replied}
 use Rattle.card.proofs.Left.{left-sound, left-bounds}
-use Rattle.card.proofs.Replied.{replies, refused-stays, card-is, roll-form, selectable-form, registered-form, made-form, control-form, rows-form, bank-form, desk-form}
+use Rattle.card.proofs.Replied.{replies, refused-stays, card-is, roll-form, selectable-form, registered-form, made-form, polls-form, control-form, rows-form, bank-form, desk-form}
+use Rattle.card.proofs.Polled.{polled-now}
 use Rattle.card.proofs.Calling.{answers}
 
 no-bytes : (bytes : List ℕ) → (length bytes == 0) ≡ empty? bytes
@@ -62,15 +64,18 @@ module _ (c : Card) (left : Left c) (bytes : List ℕ) where
 
   -- what is shown is due
   due-is
-      : {menu events : Bool} → menu ≡ hasShownRow (c .selectable) (viewRows (c .rows)) → events ≡ anyCode (isListened (c .registered) (c .selectable))
-      → _≡_ {A = Due} (record { menu = menu; events = events }) (shownSome (m .tables))
-  unfolding shownSome view
-  due-is p q =
+      : {menu events interval : Bool} → menu ≡ hasShownRow (c .selectable) (viewRows (c .rows)) → events ≡ anyCode (isListened (c .registered) (c .selectable))
+      → interval ≡ not (intervalOf (c .polls) (c .selectable) == 0)
+      → _≡_ {A = Due} (record { menu = menu; events = events; interval = interval; off = false }) (dueAtFirst (m .tables))
+  unfolding dueAtFirst view
+  due-is p q r =
       let sound = left-sound c left .tables in
       let bounds = left-bounds c left in
-      ap₂ (λ (x y : Bool). record { menu = x; events = y })
+      let polled = r ∙ polled-now c left in
+      rw polled
+      (ap₂ (λ (x y : Bool). record { menu = x; events = y; interval = isPolled (m .tables); off = false })
       (p ∙ ap (λ (s : ℕ). hasShownRow s (viewRows (c .rows))) (selectable-form c left) ∙ menu-shown (m .tables) sound bounds)
-      (q ∙ ap₂ (λ (g : List ℕ) (s : ℕ). anyCode (isListened g s)) (registered-form c left) (selectable-form c left) ∙ codes-shown (m .tables) sound bounds)
+      (q ∙ ap₂ (λ (g : List ℕ) (s : ℕ). anyCode (isListened g s)) (registered-form c left) (selectable-form c left) ∙ codes-shown (m .tables) sound bounds))
 
   begun-is : changed m it ≡ record { tables = m .tables; desk = withProfile (m .tables) bytes (m .desk) }
   unfolding changed tablesAfter deskAfter arrivalDesk
@@ -95,21 +100,22 @@ module _ (c : Card) (left : Left c) (bytes : List ℕ) where
       after-is z = ap (λ (j : ℕ). outcome j m it .after) (sym (e ∙ refusal-is) ∙ z)
 
       pub begins-session
-          : {menu events : Bool} {d : held-desk.Desk}
+          : {menu events interval : Bool} {d : held-desk.Desk}
           → menu ≡ hasShownRow (c .selectable) (viewRows (c .rows))
           → events ≡ anyCode (isListened (c .registered) (c .selectable))
-          → Begins bytes (record { menu = menu; events = events }) (c .desk) d
+          → interval ≡ not (intervalOf (c .polls) (c .selectable) == 0)
+          → Begins bytes (record { menu = menu; events = events; interval = interval; off = false }) (c .desk) d
           → r ≡ 0
           → _≡_ {A = Reply}
-          (record { card = record { roll = c .roll; selectable = c .selectable; registered = c .registered; made = c .made; control = c .control; rows = c .rows; bank = c .bank; desk = d }; answer = b })
+          (record { card = record { roll = c .roll; selectable = c .selectable; registered = c .registered; made = c .made; polls = c .polls; control = c .control; rows = c .rows; bank = c .bank; desk = d }; answer = b })
           (replied (step m it))
       unfolding outcome
-      begins-session x y f z =
+      begins-session x y i f z =
           replies (step m it)
           (rw (after-is z, begun-is)
           (card-is (record { tables = m .tables; desk = withProfile (m .tables) bytes (m .desk) })
-          (roll-form c left) (selectable-form c left) (registered-form c left) (made-form c left) (control-form c left) (rows-form c left) (bank-form c left)
-          (f (m .tables) (m .desk) (due-is x y) (desk-form c left))))
+          (roll-form c left) (selectable-form c left) (registered-form c left) (made-form c left) (polls-form c left) (control-form c left) (rows-form c left) (bank-form c left)
+          (f (m .tables) (m .desk) (due-is x y i) (desk-form c left))))
           answer-is
 
       pub refuses-profile : (r ≡ 0 → ⊥) → _≡_ {A = Reply} (record { card = c; answer = b }) (replied (step m it))

@@ -21,7 +21,7 @@ use Rattle.rules.proofs.DueMarks.{marked-same}
 use Rattle.card.specs.declared.Card.{Card}
 use Rattle.rules.specs.declared.Roll.{Roll}
 use Rattle.card.specs.declared.Reply.{Reply}
-use Rattle.applets.specs.ByNumber.{rollOf, selectableSet, registeredSet, madeTable}
+use Rattle.applets.specs.ByNumber.{rollOf, selectableSet, registeredSet, madeTable, pollTable}
 use Rattle.card.specs.View.{view, stored, Left}
 use Rattle.card.specs.Replies.{replied}
 use Rattle.card.proofs.Left.{left-form}
@@ -75,18 +75,19 @@ refused-stays c left x {r} e z = left-form c left ∙ go r z ∙ ap (λ (k : ℕ
 
 -- the card that holds a model, part by part
 pub card-is
-    : (m : Model) {a : Roll} {s : ℕ} {g : List ℕ} {f : List ℕ} {k : ℕ} {r : Rows} {b : Bank} {d : held-desk.Desk}
+    : (m : Model) {a : Roll} {s : ℕ} {g : List ℕ} {f j : List ℕ} {k : ℕ} {r : Rows} {b : Bank} {d : held-desk.Desk}
     → a ≡ rollOf (m .tables .applets)
     → s ≡ selectableSet (m .tables .applets)
     → g ≡ table 20 (registeredSet (m .tables .applets))
     → f ≡ madeTable (m .tables .applets)
+    → j ≡ pollTable (m .tables .applets)
     → k ≡ m .tables .control
     → r ≡ storedRows (m .tables .rows)
     → b .owner ≡ m .tables .timers
     → d ≡ storedDesk (m .desk)
-    → _≡_ {A = Card} (record { roll = a; selectable = s; registered = g; made = f; control = k; rows = r; bank = b; desk = d }) (stored m)
+    → _≡_ {A = Card} (record { roll = a; selectable = s; registered = g; made = f; polls = j; control = k; rows = r; bank = b; desk = d }) (stored m)
 unfolding stored
-card-is m p q s t u v w x = rw (p, q, s, t, u, v, sym w, x) refl
+card-is m p q s t i u v w x = rw (p, q, s, t, i, u, v, sym w, x) refl
 
 -- the parts of a card that calls have left
 module _ (c : Card) (left : Left c) where
@@ -106,6 +107,10 @@ module _ (c : Card) (left : Left c) where
   unfolding stored
   made-form = ap (λ (k : Card). k .made) (left-form c left)
 
+  pub polls-form : c .polls ≡ pollTable (view c .tables .applets)
+  unfolding stored
+  polls-form = ap (λ (k : Card). k .polls) (left-form c left)
+
   pub control-form : c .control ≡ view c .tables .control
   unfolding view
   control-form = refl
@@ -122,7 +127,7 @@ module _ (c : Card) (left : Left c) where
   unfolding stored
   desk-form = ap (λ (k : Card). k .desk) (left-form c left)
 
--- THE CARD AFTER A CALL that leaves what an install fixes, the entries made, the rows and the timers
+-- THE CARD AFTER A CALL that leaves what an install fixes, the entries made, the requests, the rows and the timers
 module _ (c : Card) (left : Left c) (u : Tables) where
   abbrev t : Tables
   t = view c .tables
@@ -130,6 +135,7 @@ module _ (c : Card) (left : Left c) (u : Tables) where
   pub next-card
       : rollOf (u .applets) ≡ rollOf (t .applets)
       → madeTable (u .applets) ≡ madeTable (t .applets)
+      → pollTable (u .applets) ≡ pollTable (t .applets)
       → u .rows ≡ t .rows
       → u .timers ≡ t .timers
       → {s : ℕ} {g : List ℕ} {o : ℕ} {d : held-desk.Desk}
@@ -138,9 +144,9 @@ module _ (c : Card) (left : Left c) (u : Tables) where
       → o ≡ u .control
       → d ≡ storedDesk (marked t u (view c .desk))
       → _≡_ {A = Card}
-      (record { roll = c .roll; selectable = s; registered = g; made = c .made; control = o; rows = c .rows; bank = c .bank; desk = d })
+      (record { roll = c .roll; selectable = s; registered = g; made = c .made; polls = c .polls; control = o; rows = c .rows; bank = c .bank; desk = d })
       (stored (record { tables = u; desk = marked t u (view c .desk) }))
-  next-card roll made rows timers sel reg own desk =
+  next-card roll made polls rows timers sel reg own desk =
       card-is (record { tables = u; desk = marked t u (view c .desk) })
-      (roll-form c left ∙ sym roll) sel reg (made-form c left ∙ sym made) own
+      (roll-form c left ∙ sym roll) sel reg (made-form c left ∙ sym made) (polls-form c left ∙ sym polls) own
       (rows-form c left ∙ ap storedRows (sym rows)) (bank-form c left ∙ sym timers) desk

@@ -25,11 +25,10 @@ use Rattle.rules.specs.Calls.{settled, calling}
 use Rattle.rules.specs.Desk.{marked}
 use Rattle.rules.specs.Refusals.{line, firstHolding, lines, refusal}
 use Rattle.rules.specs.Step.{step, tablesAfter, deskAfter, answer}
-use Rattle.rules.proofs.DueMarks.{changes-none}
 use Rattle.applets.specs.declared.Callees.{Callees}
 use Rattle.applets.specs.ByNumber.{at, registeredSet}
 use Rattle.applets.specs.Rolls.{calleesOf}
-use Rattle.applets.proofs.Settled.{roll-used, made-used, selectable-used, registered-used}
+use Rattle.applets.proofs.Settled.{roll-used, made-used, polls-used, selectable-used, registered-used}
 use Rattle.arrivals.specs.Whom.{calledSet}
 use Rattle.arrivals.specs.Answers.{answering}
 use Rattle.arrivals.proofs.IsFor.{for-event}
@@ -39,7 +38,7 @@ use Rattle.card.specs.View.{view, stored, Left}
 use Rattle.card.specs.Replies.{replied}
 use Rattle.card.proofs.Marks.{quiet-desk}
 use Rattle.card.proofs.Replied.{replies, tablesBy, after-by, next-card, selectable-form, registered-form, control-form}
-use Rattle.card.proofs.Turned.{settled-quiet}
+use Rattle.card.proofs.Turned.{nothing-turns, settled-quiet}
 use Rattle.card.proofs.Calling.{answers}
 
 module _ (c : Card) (left : Left c) where
@@ -79,7 +78,7 @@ module _ (c : Card) (left : Left c) where
 
   abbrev left-card : (registered : List ℕ) → Card
   left-card g =
-      record { roll = c .roll; selectable = c .selectable; registered = g; made = c .made; control = c .control; rows = c .rows; bank = c .bank; desk = c .desk }
+      record { roll = c .roll; selectable = c .selectable; registered = g; made = c .made; polls = c .polls; control = c .control; rows = c .rows; bank = c .bank; desk = c .desk }
 
   card-after
       : (r : ℕ)
@@ -87,14 +86,14 @@ module _ (c : Card) (left : Left c) where
       ≡ stored (record { tables = tablesBy m settled r; desk = marked (m .tables) (tablesBy m settled r) (m .desk) })
   unfolding tablesAfter
   card-after zero =
-      next-card c left (withApplets (m .tables) (map usedUp l)) (roll-used l) (made-used l) refl refl
+      next-card c left (withApplets (m .tables) (map usedUp l)) (roll-used l) (made-used l) (polls-used l) refl refl
       (selectable-form c left ∙ sym (selectable-used l)) registered-less (control-form c left)
       (quiet-desk c left _ (settled-quiet (m .tables)))
   card-after (suc r) =
       rw (ne-eqb (suc r) 0 (λ z. omega arith))
-      (next-card c left (m .tables) refl refl refl refl
+      (next-card c left (m .tables) refl refl refl refl refl
       (selectable-form c left) registered-stays (control-form c left)
-      (quiet-desk c left (m .tables) (changes-none (m .tables))))
+      (quiet-desk c left (m .tables) (nothing-turns (m .tables))))
 
   refusal-is : firstHolding (line 16 (c .desk .outstanding) ∷ []) ≡ refusal m settled
   unfolding refusal lines view viewDesk

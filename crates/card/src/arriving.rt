@@ -1,4 +1,4 @@
-// The arrivals: settled moments, profiles and envelopes. Each answers with the applets called and the handlers available to them.
+// The arrivals: settled moments, profiles, envelopes and STATUS. Each answers with the applets called and the handlers available to them.
 // Each has one way through: a refused one calls nobody and leaves the card.
 use crate::Card;
 use crate::Reply;
@@ -6,7 +6,7 @@ use rules::Due;
 use rules::Kind;
 use rules::refused;
 ghost use mathlib.Core.Path.{_≡_};
-ghost use Rattle.rules.specs.Calls.{arrival, envelope, profile, settled};
+ghost use Rattle.rules.specs.Calls.{arrival, envelope, profile, status, settled};
 ghost use Rattle.card.specs.View.{Left};
 ghost use Rattle.card.specs.Replies.{Replies};
 
@@ -54,7 +54,14 @@ impl Card {
         let rows = left.rows;
         let menu = menu_shown::has_shown_row(rows, left.selectable);
         let events = events_shown::any_listened(registered, left.selectable);
-        let due = Due { menu, events };
+        let polls = left.polls;
+        let interval = polling::any_polled(polls, left.selectable);
+        let due = Due {
+            menu,
+            events,
+            interval,
+            off: false,
+        };
         let desk = left.desk;
         let next = arrivals::begun(desk, due, bytes);
         if refusal == 0 {
@@ -80,6 +87,21 @@ impl Card {
         let callees = applets::listed(order, self.roll.count, who);
         let marks = arrivals::envelope_marks(self.desk.outstanding, e);
         let answer = arrivals::answered(refusal, callees, marks);
+        Reply { card: self, answer }
+    }
+
+    // Calls those who request a poll interval.
+    pub fn status(self) -> Reply
+        requires { ⌜ Left self ⌝ }
+        ensures { λ r. ⌜ Replies self (arrival status) r ⌝ }
+    {
+        let polls = self.polls;
+        let whom = polling::polling_set(polls);
+        let who = arrivals::called(0, whom, self.selectable);
+        let order = self.roll.order;
+        let callees = applets::listed(order, self.roll.count, who);
+        let marks = arrivals::other_marks(self.desk.outstanding);
+        let answer = arrivals::answered(0, callees, marks);
         Reply { card: self, answer }
     }
 }

@@ -38,6 +38,8 @@ fn made(title: &[u8]) -> Card
     let due = Due {
         menu: false,
         events: false,
+        interval: false,
+        off: false,
     };
     let desk = Desk {
         due,
@@ -52,6 +54,7 @@ fn made(title: &[u8]) -> Card
         selectable: 0,
         registered: [0; Kind::EVENTS],
         made: [0; Roll::APPLETS],
+        polls: [0; Roll::APPLETS],
         control: 0,
         rows,
         bank,

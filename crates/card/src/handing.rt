@@ -1,36 +1,60 @@
-// Handing out: the command that is due, the menu first and then the event list, at the front of a lent buffer.
+// Handing out: the command that is due, the menu first, then the event list, then polling, at the front of a lent buffer.
 // The card is left as it will be before the first byte is written.
 use crate::Card;
 use crate::Reply;
 use rules::Desk;
+use rules::Due;
 use rules::Kind;
+use rules::Roll;
 use rules::Rows;
 ghost use Prim.Native.Nat.{_<_, _≤_};
 ghost use mathlib.Core.Path.{_≡_};
-ghost use mathlib.Core.Bool.{not, _&&_};
 ghost use lib.ListN.{length, take};
 ghost use Rattle.lists.specs.Tests.{_==_};
 ghost use Rattle.lists.specs.Wrote.{Wrote};
 ghost use Rattle.rules.specs.Events.{codes, firstDownload};
-ghost use Rattle.rules.specs.Commands.{menuOf, menuBytes, eventBytes};
+ghost use Rattle.rules.specs.Commands.{menuOf, menuBytes, eventBytes, intervalBytes};
 ghost use Rattle.rules.specs.Calls.{systemCommand};
 ghost use Rattle.commands.specs.Fits.{Fits, shownOf};
 ghost use Rattle.events_shown.specs.Listed.{codesFrom};
 ghost use Rattle.events_shown.specs.Turns.{isListened};
 ghost use Rattle.card.specs.View.{Left};
+ghost use Rattle.polling.specs.Polls.{intervalOf};
 ghost use Rattle.card.specs.Replies.{Replies, Fills};
+ghost use Rattle.card.specs.Turns.{firstDue, restDue};
 
-// Whether a matter is handed out: the call is accepted, nothing before it is due, and it is.
-fn is_handed(refusal: u8, before: bool, due: bool) -> bool
-    ensures { λ r. ⌜ r ≡ (refusal == 0 && (not before && due)) ⌝ }
+// What is handed out: of an accepted call the first that is due.
+fn first_due(refusal: u8, due: Due) -> Due
+    ensures { λ r. ⌜ r ≡ firstDue (refusal == 0) due ⌝ }
 {
-    if refusal == 0 {
-        if before {
-            return false;
-        }
-        return due;
+    let accepted = refusal == 0;
+    let menu = accepted & due.menu;
+    let events = accepted & !due.menu & due.events;
+    let quiet = accepted & !due.menu & !due.events;
+    let interval = quiet & due.interval;
+    let off = quiet & !due.interval & due.off;
+    Due {
+        menu,
+        events,
+        interval,
+        off,
     }
-    false
+}
+
+// What is left due.
+fn rest_due(due: Due, handed: Due) -> Due
+    ensures { λ r. ⌜ r ≡ restDue due handed ⌝ }
+{
+    let menu = due.menu & !handed.menu;
+    let events = due.events & !handed.events;
+    let interval = due.interval & !handed.interval;
+    let off = due.off & !handed.off;
+    Due {
+        menu,
+        events,
+        interval,
+        off,
+    }
 }
 
 // Writes the menu of the shown rows; how many bytes it has.
@@ -53,6 +77,15 @@ fn put_events(buf: &mut [u8], registered: [u8; Kind::EVENTS], selectable: u8) ->
     commands::write_events(buf, &at[..n])
 }
 
+// Writes POLL INTERVAL with the system interval; how many bytes it has.
+fn put_interval(buf: &mut [u8], polls: [u16; Roll::APPLETS], selectable: u8) -> usize
+    requires { ⌜ (intervalOf polls selectable ≤ 15300) × (256 ≤ length (now buf)) ⌝ }
+    ensures { λ r. ⌜ Wrote (now (buf .entry)) 0 (intervalBytes (intervalOf polls selectable)) (now (buf .exit)) r × (r < 256) ⌝ }
+{
+    let seconds = polling::system_interval(polls, selectable);
+    commands::write_interval(buf, seconds)
+}
+
 impl Card {
     // Hands out the command that is due; its length, or 0 where nothing is due.
     pub fn system_command(self, buf: &mut [u8]) -> Reply
@@ -61,26 +94,32 @@ impl Card {
     {
         let mut left = self;
         let was = left.desk.outstanding;
-        let menu_due = left.desk.due.menu;
-        let events_due = left.desk.due.events;
+        let due = left.desk.due;
         let refusal = refusals::hand_refusal(was, buf.len());
-        let menu = is_handed(refusal, false, menu_due);
-        let events = is_handed(refusal, menu_due, events_due);
-        let menu_left = menu_due & !menu;
-        let events_left = events_due & !events;
-        let outstanding = was | menu | events;
-        left.desk.due.menu = menu_left;
-        left.desk.due.events = events_left;
+        let first = first_due(refusal, due);
+        let rest = rest_due(due, first);
+        let outstanding = was | first.menu | first.events | first.interval | first.off;
+        left.desk.due.menu = rest.menu;
+        left.desk.due.events = rest.events;
+        left.desk.due.interval = rest.interval;
+        left.desk.due.off = rest.off;
         left.desk.outstanding = outstanding;
         let mut n: usize = 0;
-        if menu {
+        if first.menu {
             let title = left.desk.title;
             let rows = left.rows;
             n = put_menu(buf, title, left.desk.title_len, rows, left.selectable);
         }
-        if events {
+        if first.events {
             let registered = left.registered;
             n = put_events(buf, registered, left.selectable);
+        }
+        if first.interval {
+            let polls = left.polls;
+            n = put_interval(buf, polls, left.selectable);
+        }
+        if first.off {
+            n = commands::write_off(buf);
         }
         let answer = answers::of_number(refusal, n as u8);
         Reply { card: left, answer }

@@ -9,6 +9,7 @@ mod locking;
 mod proactive;
 mod registering;
 mod removing;
+mod requesting;
 mod timing;
 
 ghost use mathlib.Core.Path.{_≡_};
@@ -28,6 +29,7 @@ pub struct Card {
     pub made: [u8; Roll::APPLETS],
     pub bank: Bank,
     pub roll: Roll,
+    pub polls: [u16; Roll::APPLETS],
     pub rows: Rows,
     pub desk: Desk,
 }

@@ -67,11 +67,23 @@ impl Card {
             let menu = menu_turns(there, was, applet, false, rows);
             let registered = left.registered;
             let events = events_shown::codes_turn(registered, was, is);
+            let polls = left.polls;
+            let polling = polling::due_switched(
+                left.desk.session,
+                left.desk.due.interval,
+                left.desk.due.off,
+                polls,
+                was,
+                applet,
+                false,
+            );
             let menu_due = due_after(left.desk.session, left.desk.due.menu, menu);
             let events_due = due_after(left.desk.session, left.desk.due.events, events);
             left.selectable = is;
             left.desk.due.menu = menu_due;
             left.desk.due.events = events_due;
+            left.desk.due.interval = polling.interval;
+            left.desk.due.off = polling.off;
         }
         let refusal = absent_refusal(there);
         let answer = answers::of_refusal(refusal);
@@ -93,11 +105,23 @@ impl Card {
             let menu = menu_turns(there, was, applet, true, rows);
             let registered = left.registered;
             let events = events_shown::codes_turn(registered, was, is);
+            let polls = left.polls;
+            let polling = polling::due_switched(
+                left.desk.session,
+                left.desk.due.interval,
+                left.desk.due.off,
+                polls,
+                was,
+                applet,
+                true,
+            );
             let menu_due = due_after(left.desk.session, left.desk.due.menu, menu);
             let events_due = due_after(left.desk.session, left.desk.due.events, events);
             left.selectable = is;
             left.desk.due.menu = menu_due;
             left.desk.due.events = events_due;
+            left.desk.due.interval = polling.interval;
+            left.desk.due.off = polling.off;
         }
         let refusal = absent_refusal(there);
         let answer = answers::of_refusal(refusal);

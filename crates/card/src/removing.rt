@@ -10,7 +10,7 @@ ghost use Rattle.card.specs.View.{Left};
 ghost use Rattle.card.specs.Replies.{Replies};
 
 impl Card {
-    // Deletes an applet, with its rows, its timers and its registrations.
+    // Deletes an applet, with its rows, its timers, its registrations and its request for polling.
     pub fn delete(self, applet: u8) -> Reply
         requires { ⌜ Left self ⌝ }
         ensures { λ r. ⌜ Replies self (admin (delete applet)) r ⌝ }
@@ -27,11 +27,22 @@ impl Card {
             let bank = left.bank;
             let menu = menu_turns(true, was, applet, false, rows);
             let events = events_shown::codes_turn(registered, was, is);
+            let polls = left.polls;
+            let polling = polling::due_switched(
+                left.desk.session,
+                left.desk.due.interval,
+                left.desk.due.off,
+                polls,
+                was,
+                applet,
+                false,
+            );
             let menu_due = due_after(left.desk.session, left.desk.due.menu, menu);
             let events_due = due_after(left.desk.session, left.desk.due.events, events);
             let next_roll = applets::roll_without(roll, applet);
             let next_registered = applets::unregistered(registered, applet);
             let next_made = applets::made_with(made, applet, 0);
+            let next_polls = polling::poll_with(polls, applet, 0);
             let next_bank = timers::freed(bank, applet);
             let control = applets::owner_without(left.control, applet);
             let next_rows = menu::without(rows, applet);
@@ -39,10 +50,13 @@ impl Card {
             left.selectable = is;
             left.registered = next_registered;
             left.made = next_made;
+            left.polls = next_polls;
             left.control = control;
             left.bank = next_bank;
             left.desk.due.menu = menu_due;
             left.desk.due.events = events_due;
+            left.desk.due.interval = polling.interval;
+            left.desk.due.off = polling.off;
             left.rows = next_rows;
         }
         let refusal = absent_refusal(there);

@@ -1,15 +1,16 @@
 -- The parts of a command, written one behind the other, are the command; and they have room in 256 bytes.
 -- Assumes nothing.
-use Prim.Native.Nat.{ℕ, _+_, _≤_, _<_}
+use Prim.Native.Nat.{ℕ, _+_, _/_, _≤_, _<_}
 use native.Mathlib.Omega.{arith}
-use mathlib.Core.Path.{_≡_, sym, ap, _∙_}
+use mathlib.Core.Path.{_≡_, refl, sym, ap, _∙_}
 use mathlib.Core.Bool.{Bool, true, false}
 use mathlib.Core.List.{List, [], _∷_, _++_}
 use lib.ListN.{length, length-append}
-use Rattle.lists.specs.Tests.{if_then_else_, _==_}
+use borrow.Author.Tests.{le-leb, lt-leb}
+use Rattle.lists.specs.Tests.{if_then_else_, _==_, _≤?_}
 use Rattle.lists.specs.Lists.{some?}
 use Rattle.rules.specs.Holds.{Row}
-use Rattle.rules.specs.Commands.{lengthBytes, commandBytes, detailBytes, itemsBytes, menuOf, menuValue, menuBytes, eventBytes}
+use Rattle.rules.specs.Commands.{lengthBytes, commandBytes, detailBytes, itemsBytes, menuOf, menuValue, menuBytes, eventBytes, durationBytes, intervalBytes, offBytes}
 use Rattle.rules.proofs.Listed.{length-most}
 use Rattle.lists.specs.Wrote.{Wrote}
 use Rattle.commands.specs.Fits.{itemsOf, rowsBytes}
@@ -103,3 +104,35 @@ wrote-events {codes = codes} room few w₁ w₂ w₃ =
     let e : 11 + length codes ≡ length (0x81 ∷ 3 ∷ 1 ∷ 5 ∷ 0 ∷ 0x82 ∷ 2 ∷ 0x81 ∷ 0x82 ∷ 0x99 ∷ length codes ∷ codes) = omega arith in
     let m = length-most (11 + length codes) in
     wrote-then (rw e at w₁) (wrote-then w₂ w₃ (omega (arith, w₁ .next))) (omega (arith, ap (λ n. length (lengthBytes n)) e))
+
+-- the one part of a duration, by its unit
+module _ {b c : List ℕ} {at n : ℕ} where
+  pub wrote-seconds : (s : ℕ) → s ≤ 255 → Wrote b at (0x84 ∷ 2 ∷ 1 ∷ s ∷ []) c n → Wrote b at (durationBytes s) c n
+  unfolding durationBytes
+  wrote-seconds s h w = rw (le-leb s 255 h) w
+
+  pub wrote-minutes : (s : ℕ) → 255 < s → Wrote b at (0x84 ∷ 2 ∷ 0 ∷ s / 60 ∷ []) c n → Wrote b at (durationBytes s) c n
+  unfolding durationBytes
+  wrote-minutes s h w = rw (lt-leb s 255 h) w
+
+pub duration-length : (s : ℕ) → length (durationBytes s) ≡ 4
+unfolding durationBytes
+duration-length s = go (s ≤? 255)
+  where
+    go : (b : Bool) → length (0x84 ∷ 2 ∷ (if b then 1 ∷ s ∷ [] else 0 ∷ s / 60 ∷ [])) ≡ 4
+    go true = refl
+    go false = refl
+
+-- the two parts of POLL INTERVAL, and the one of POLLING OFF
+pub wrote-interval
+    : {b c₁ c₂ : List ℕ} {n₁ n₂ : ℕ} (s : ℕ)
+    → 256 ≤ length b
+    → Wrote b 0 (0xD0 ∷ 13 ∷ 0x81 ∷ 3 ∷ 1 ∷ 3 ∷ 0 ∷ 0x82 ∷ 2 ∷ 0x81 ∷ 0x82 ∷ []) c₁ n₁
+    → Wrote c₁ n₁ (durationBytes s) c₂ n₂
+    → Wrote b 0 (intervalBytes s) c₂ n₂
+unfolding intervalBytes commandBytes detailBytes lengthBytes
+wrote-interval s room w v = rw (duration-length s) (wrote-then w v (omega arith))
+
+pub wrote-off : {b c : List ℕ} {n : ℕ} → Wrote b 0 (0xD0 ∷ 9 ∷ 0x81 ∷ 3 ∷ 1 ∷ 4 ∷ 0 ∷ 0x82 ∷ 2 ∷ 0x81 ∷ 0x82 ∷ []) c n → Wrote b 0 offBytes c n
+unfolding offBytes commandBytes detailBytes lengthBytes
+wrote-off w = w

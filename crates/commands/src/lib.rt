@@ -1,4 +1,4 @@
-// The system commands, written at the front of a lent buffer: the menu and the event list.
+// The system commands, written at the front of a lent buffer: the menu, the event list, POLL INTERVAL and POLLING OFF.
 // The length stands before the value, so the bytes are counted first.
 use rules::Rows;
 ghost use mathlib.Core.Path.{_≡_};
@@ -8,7 +8,7 @@ ghost use lib.ListN.{length};
 ghost use Rattle.lists.specs.Tests.{if_then_else_, _==_};
 ghost use Rattle.lists.specs.Lists.{some?};
 ghost use Rattle.rules.specs.Holds.{Row};
-ghost use Rattle.rules.specs.Commands.{lengthBytes, itemBytes, itemsBytes, menuOf, menuBytes, eventBytes};
+ghost use Rattle.rules.specs.Commands.{lengthBytes, itemBytes, itemsBytes, menuOf, menuBytes, eventBytes, durationBytes, intervalBytes, offBytes};
 ghost use Rattle.lists.specs.Wrote.{Wrote};
 ghost use Rattle.commands.specs.Fits.{itemsOf, rowsBytes, shownOf, Fits};
 
@@ -140,4 +140,37 @@ pub fn write_events(buf: &mut [u8], codes: &[u8]) -> usize
     let head = [0x81, 3, 1, 5, 0, 0x82, 2, 0x81, 0x82, 0x99, n as u8];
     let second = writing::put(buf, first, &head);
     writing::put(buf, second, codes)
+}
+
+// A duration: 84, length, unit, count; in seconds up to 255, else in minutes.
+fn put_duration(buf: &mut [u8], at: usize, seconds: u16) -> usize
+    requires { ⌜ (seconds ≤ 15300) × (at + 4 ≤ length (now buf)) ⌝ }
+    ensures { λ r. ⌜ Wrote (now (buf .entry)) at (durationBytes seconds) (now (buf .exit)) r ⌝ }
+{
+    if seconds <= 255 {
+        let duration = [0x84, 2, 1, seconds as u8];
+        return writing::put(buf, at, &duration);
+    }
+    let minutes = seconds / 60;
+    let duration = [0x84, 2, 0, minutes as u8];
+    writing::put(buf, at, &duration)
+}
+
+// POLL INTERVAL at the front of the buffer; how many bytes it has.
+pub fn write_interval(buf: &mut [u8], seconds: u16) -> usize
+    requires { ⌜ (seconds ≤ 15300) × (256 ≤ length (now buf)) ⌝ }
+    ensures { λ r. ⌜ Wrote (now (buf .entry)) 0 (intervalBytes seconds) (now (buf .exit)) r ⌝ }
+{
+    let head = [0xD0, 13, 0x81, 3, 1, 3, 0, 0x82, 2, 0x81, 0x82];
+    let first = writing::put(buf, 0, &head);
+    put_duration(buf, first, seconds)
+}
+
+// POLLING OFF at the front of the buffer; how many bytes it has.
+pub fn write_off(buf: &mut [u8]) -> usize
+    requires { ⌜ 256 ≤ length (now buf) ⌝ }
+    ensures { λ r. ⌜ Wrote (now (buf .entry)) 0 offBytes (now (buf .exit)) r ⌝ }
+{
+    let command = [0xD0, 9, 0x81, 3, 1, 4, 0, 0x82, 2, 0x81, 0x82];
+    writing::put(buf, 0, &command)
 }

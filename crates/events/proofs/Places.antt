@@ -1,6 +1,6 @@
 -- Laws of kinds: which places a value names, and what may be set.
 -- Assumes nothing.
-use mathlib.Core.Path.{_≡_, sym, ap, _∙_}
+use mathlib.Core.Path.{_≡_, sym}
 use mathlib.Core.Bool.{Bool, true, false}
 use mathlib.Core.List.{List, [], _∷_}
 use Prim.Native.Nat.{ℕ, suc, _+_, _≤_, _<_}
@@ -9,10 +9,10 @@ use lib.IntN.{ℤ}
 use lib.Signed.{ltZ}
 use mir.Syntax.{w16}
 use mir.Val.{SFits, ofZ, toZ}
-use mir.ValLaws.{toZ-ofZ}
 use lib.ListN.{length}
 use borrow.Author.Tests.{ne-eqb}
 use Rattle.lists.specs.Tests.{if_then_else_}
+use Rattle.lists.proofs.Signed.{passed}
 use Rattle.rules.specs.declared.Kind.{Kind}
 use Rattle.rules.specs.declared.Kind.the-variants.{Event, Issuer, Reserved, Unsupported}
 use Rattle.rules.specs.Events.{supported, hasValue, kindOf, named, minus, notSupported, notToSet}
@@ -75,4 +75,4 @@ place-within v h e = rw (e, h) (within (kindOf v) (value-place v))
 
 -- a signed value is what its bits are read as
 pub kind-of-value : (v : ℤ) {k : Kind} → SFits w16 v → k ≡ kindOf (toZ w16 (ofZ w16 v)) → k ≡ kindOf v
-kind-of-value v f e = e ∙ ap kindOf (toZ-ofZ w16 v f)
+kind-of-value v f e = passed w16 v kindOf f e

@@ -5,7 +5,6 @@ use mathlib.Core.Bool.{Bool, true, false}
 use mathlib.Core.List.{List, [], _∷_}
 use Prim.Native.Nat.{ℕ, suc}
 use lib.IntN.{ℤ, pos, negsuc}
-use lib.Signed.{ltZ}
 use borrow.Author.Tests.{eqb-true}
 use mir.Syntax.{Width}
 use mir.Val.{SFits, ofZ, toZ}
@@ -19,10 +18,6 @@ use Rattle.rules.specs.Events.{equal?, named}
 -- a signed value is the number that its bits are read as
 pub of-bits : (w : Width) (v : ℤ) (k : ℕ) → SFits w v → ofZ w v ≡ k → v ≡ toZ w k
 of-bits w v k f e = sym (toZ-ofZ w v f) ∙ ap (toZ w) e
-
--- a test of a signed value, which the machine makes on the number that its bits are read as
-pub tested : (w : Width) (v z : ℤ) (b : Bool) → SFits w v → ltZ (toZ w (ofZ w v)) z ≡ b → ltZ v z ≡ b
-tested w v z b f e = ap (λ (x : ℤ). ltZ x z) (sym (toZ-ofZ w v f)) ∙ e
 
 pub equal-same : (a b : ℤ) → equal? a b ≡ true → a ≡ b
 equal-same (pos a) (pos b) e = ap pos (eqb-true a b e)

@@ -1,4 +1,4 @@
--- Calls that leave the shown events: an install, a new entry, a settled moment, call control, rows and timers.
+-- Calls that leave the shown events: an install, a new entry, a request for polling, a settled moment, call control, rows and timers.
 -- Assumes nothing.
 use Prim.Native.Nat.{ℕ, zero, suc}
 use native.Mathlib.Omega.{arith}
@@ -11,7 +11,7 @@ use Rattle.lists.specs.Tests.{if_then_else_}
 use Rattle.lists.specs.Lists.{some?, change}
 use Rattle.lists.proofs.Changes.{some-change}
 use Rattle.rules.specs.declared.Request.{Request}
-use Rattle.rules.specs.Holds.{Applet, Row, Tables, withApplets, withRows, withControl, withTimers, withEvent, withOneMore}
+use Rattle.rules.specs.Holds.{Applet, Row, Tables, withApplets, withRows, withControl, withTimers, withEvent, withOneMore, withPoll}
 use Rattle.rules.specs.Events.{handlerAvailable}
 use Rattle.rules.specs.Applets.{hasNumber, newcomer, registered, calledWhenSettled, usedUp}
 use Rattle.rules.specs.Commands.{listened}
@@ -74,8 +74,14 @@ rows-events t rows = events-same t (withRows t rows) (λ e h k. unfold listened 
 pub timers-events : (t : Tables) (timers : List ℕ) → eventsChange t (withTimers t timers) ≡ false
 timers-events t timers = events-same t (withTimers t timers) (λ e h k. unfold listened registered in refl)
 
--- A NEW ENTRY changes of its applet only how many entries it has made
-pub entry-events : (t : Tables) (n : ℕ) (rows : List Row) → eventsChange t (withApplets (withRows t rows) (change (hasNumber n) withOneMore (t .applets))) ≡ false
-entry-events t n rows =
-    events-same t (withApplets (withRows t rows) (change (hasNumber n) withOneMore (t .applets)))
-    (λ e h k. unfold listened registered in some-change _ (hasNumber n) withOneMore (λ x. refl) (t .applets))
+-- A NEW ENTRY changes of its applet only how many entries it has made, A REQUEST only the interval that it requests
+module _ (t : Tables) (n : ℕ) where
+  pub entry-events : (rows : List Row) → eventsChange t (withApplets (withRows t rows) (change (hasNumber n) withOneMore (t .applets))) ≡ false
+  entry-events rows =
+      events-same t (withApplets (withRows t rows) (change (hasNumber n) withOneMore (t .applets)))
+      (λ e h k. unfold listened registered in some-change _ (hasNumber n) withOneMore (λ x. refl) (t .applets))
+
+  pub request-events : (s : ℕ) → eventsChange t (withApplets t (change (hasNumber n) (withPoll s) (t .applets))) ≡ false
+  request-events s =
+      events-same t (withApplets t (change (hasNumber n) (withPoll s) (t .applets)))
+      (λ e h k. unfold listened registered in some-change _ (hasNumber n) (withPoll s) (λ x. refl) (t .applets))

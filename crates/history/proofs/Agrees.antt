@@ -15,7 +15,7 @@ use Rattle.lists.proofs.Times.{if-same}
 use Rattle.rules.specs.Holds.{Model, document, fresh}
 use Rattle.rules.specs.Applets.{present, applet}
 use Rattle.rules.specs.Timers.{ownerOf}
-use Rattle.rules.specs.Calls.{Call, Answer, refusedWith, admin, event, entry, timer, arrival, settled, proactive, systemCommand, setEvent, clearEvent, askEvent, newEntry, changeEntry, enableEntry, disableEntry, allocate, release, envelope, profile}
+use Rattle.rules.specs.Calls.{Call, Answer, refusedWith, admin, event, entry, timer, arrival, settled, proactive, systemCommand, setEvent, clearEvent, askEvent, requestPoll, newEntry, changeEntry, enableEntry, disableEntry, allocate, release, envelope, profile, status}
 use Rattle.rules.specs.Refusals.{refusal}
 use Rattle.rules.specs.Step.{eventAnswer, entryAnswer, timerAnswer, arrivalAnswer, answer, changed, outcome, step}
 use Rattle.rules.specs.Beside.{freshBy, freshCard}
@@ -23,11 +23,11 @@ use Rattle.rules.specs.Runs.{cardAfter}
 use Rattle.rules.proofs.Bounds.{after-keeps}
 use Rattle.runs.proofs.Run.{run-sound}
 use Rattle.history.specs.Histories.{did, History, accepted, stands}
-use Rattle.history.specs.Named.{isPresent, isSelectable, isRegistered, ownsTimer, rowsNamed, rowsSince, inSession, isOutstanding}
+use Rattle.history.specs.Named.{isPresent, isSelectable, isRegistered, pollOf, ownsTimer, rowsNamed, rowsSince, inSession, isOutstanding}
 use Rattle.history.specs.Runs.{historyOf}
 use Rattle.history.proofs.Agree.{Agree, Ground}
 use Rattle.history.proofs.Present.{presence-kept, selectability-kept, priorities-kept, order-kept}
-use Rattle.history.proofs.Registered.{events-kept, control-kept}
+use Rattle.history.proofs.Registered.{events-kept, control-kept, poll-kept}
 use Rattle.history.proofs.Owners.{timers-kept}
 use Rattle.history.proofs.RowsNamed.{rows-kept}
 use Rattle.history.proofs.DeskKept.{desk-kept}
@@ -38,7 +38,7 @@ unfolding ownerOf
 free k = ap (λ (o : ℕ). if k == 0 then 0 else o) (getD-blank 0 8 (k - 1)) ∙ if-same (k == 0) 0
 
 agree-fresh : (title : List ℕ) → Agree (fresh document title) []
-unfolding present applet isPresent isSelectable isRegistered ownsTimer rowsNamed rowsSince inSession isOutstanding stands Every Ordered some? first count
+unfolding present applet isPresent isSelectable isRegistered pollOf ownsTimer rowsNamed rowsSince inSession isOutstanding stands Every Ordered some? first count
 agree-fresh title =
     record {
       tables =
@@ -49,6 +49,7 @@ agree-fresh title =
             order = tt;
             events = λ n e q. getD-blank false 20 e;
             control = λ n k. ne-eqb 0 n (λ z. absurd (omega arith));
+            poll = λ n. refl;
             timers = λ k n o. ap (λ (z : ℕ). z == n) (free k) ∙ ne-eqb 0 n (λ z. absurd (omega arith));
             rows = λ p. refl;
           };
@@ -74,6 +75,7 @@ agree-kept m h c ok s g =
             order = order-kept m h c ok s (g .tables);
             events = events-kept m h c ok s (g .tables);
             control = control-kept m h c ok s (g .tables);
+            poll = poll-kept m h c ok s (g .tables);
             timers = timers-kept m h c ok s (g .tables);
             rows = rows-kept m h c ok s (g .tables);
           };
@@ -87,6 +89,7 @@ plain m (admin c) = refl
 plain m (event (setEvent n v)) = refl
 plain m (event (clearEvent n v)) = refl
 plain m (event (askEvent n v)) = refl
+plain m (event (requestPoll n d)) = refl
 plain m (entry (newEntry n help text)) = refl
 plain m (entry (changeEntry n i help text)) = refl
 plain m (entry (enableEntry n i)) = refl
@@ -95,6 +98,7 @@ plain m (timer (allocate n)) = refl
 plain m (timer (release n k)) = refl
 plain m (arrival (envelope bytes)) = refl
 plain m (arrival (profile bytes)) = refl
+plain m (arrival status) = refl
 plain m settled = refl
 plain m (proactive c) = refl
 plain m (systemCommand buffer) = refl

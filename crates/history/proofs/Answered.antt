@@ -11,7 +11,7 @@ use Rattle.rules.specs.Holds.{Applet, Tables, Model}
 use Rattle.rules.specs.Envelopes.{envelopeOf, badEnvelope}
 use Rattle.rules.specs.Applets.{inOrder}
 use Rattle.rules.specs.Arrivals.{nothing, wants, called}
-use Rattle.rules.specs.Calls.{Call, admin, event, entry, timer, arrival, settled, proactive, systemCommand, setEvent, clearEvent, askEvent, newEntry, changeEntry, enableEntry, disableEntry, allocate, release, envelope, profile}
+use Rattle.rules.specs.Calls.{Call, admin, event, entry, timer, arrival, settled, proactive, systemCommand, setEvent, clearEvent, askEvent, requestPoll, newEntry, changeEntry, enableEntry, disableEntry, allocate, release, envelope, profile, status}
 use Rattle.rules.specs.Refusals.{firstHolding, arrivalLines, lines, refusal}
 use Rattle.rules.specs.Step.{eventAnswer, entryAnswer, timerAnswer, arrivalAnswer, answer, outcome, step}
 use Rattle.history.specs.Called.{arrivalIn}
@@ -70,6 +70,7 @@ calls-those m (admin c) = nobody-called (m .tables)
 calls-those m (event (setEvent n v)) = nobody-called (m .tables)
 calls-those m (event (clearEvent n v)) = nobody-called (m .tables)
 calls-those m (event (askEvent n v)) = nobody-called (m .tables)
+calls-those m (event (requestPoll n d)) = nobody-called (m .tables)
 calls-those m (entry (newEntry n help text)) = nobody-called (m .tables)
 calls-those m (entry (changeEntry n i help text)) = nobody-called (m .tables)
 calls-those m (entry (enableEntry n i)) = nobody-called (m .tables)
@@ -78,6 +79,7 @@ calls-those m (timer (allocate n)) = nobody-called (m .tables)
 calls-those m (timer (release n k)) = nobody-called (m .tables)
 calls-those m (arrival (envelope bytes)) = refl
 calls-those m (arrival (profile bytes)) = refl
+calls-those m (arrival status) = refl
 calls-those m settled = refl
 calls-those m (proactive c) = nobody-called (m .tables)
 calls-those m (systemCommand buffer) = nobody-called (m .tables)
@@ -89,3 +91,8 @@ unfolding refusal lines arrivalLines firstHolding
 reads m bytes e =
     let ok : refusal m (arrival (envelope bytes)) ≡ 0 = rw e refl in
     ap (λ a. a .refusal) (answers m (arrival (envelope bytes)) ok) ∙ plain m (arrival (envelope bytes))
+
+-- a STATUS is always accepted
+pub status-is-taken : (m : Model) → step m (arrival status) .answer .refusal ≡ 0
+unfolding refusal lines arrivalLines firstHolding
+status-is-taken m = gives m (arrival status)

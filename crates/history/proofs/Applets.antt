@@ -14,10 +14,10 @@ use Rattle.lists.proofs.Keyed.{first-more, first-map, first-change, keys-map, k
 use Rattle.rules.specs.declared.Kind.{Kind}
 use Rattle.rules.specs.declared.Kind.the-variants.{Event, Issuer, Reserved, Unsupported}
 use Rattle.rules.specs.declared.Request.{Request}
-use Rattle.rules.specs.Holds.{Applet, Tables, Model, withApplets, withControl, withEvent, withOneMore}
+use Rattle.rules.specs.Holds.{Applet, Tables, Model, withApplets, withControl, withEvent, withOneMore, withPoll}
 use Rattle.rules.specs.Events.{callControl, handlerAvailable, kindOf}
-use Rattle.rules.specs.Applets.{hasNumber, nobody, present, applet, newcomer, forget, register, withRegistration, calledWhenSettled, usedUp}
-use Rattle.rules.specs.Calls.{event, entry, EventCall, setEvent, clearEvent, askEvent, EntryCall, newEntry, changeEntry, enableEntry, disableEntry}
+use Rattle.rules.specs.Applets.{hasNumber, nobody, present, applet, newcomer, forget, register, withRegistration, secondsOf, calledWhenSettled, usedUp}
+use Rattle.rules.specs.Calls.{event, entry, EventCall, setEvent, clearEvent, askEvent, requestPoll, EntryCall, newEntry, changeEntry, enableEntry, disableEntry}
 use Rattle.rules.specs.Step.{eventTables, entryTables}
 use Rattle.rules.specs.Refusals.{eventLines, lines, refusal}
 use Rattle.runs.proofs.Accepted.{accepted as none-holds}
@@ -54,8 +54,8 @@ pub with-used : (l : List Applet) (n : ℕ) → first (hasNumber n) nobody (map 
 unfolding usedUp
 with-used l n = first-map numberOf nobody usedUp (used-kept numberOf (λ b x. refl)) refl n l
 
--- The calls on registrations.
-registered-kept : {B : Type 0} (g : Applet → B) → ((e : ℕ) (b : Bool) (x : Applet) → g (withEvent e b x) ≡ g x)
+-- The calls on registrations, and on requests for polling.
+pub registered-kept : {B : Type 0} (g : Applet → B) → ((e : ℕ) (b : Bool) (x : Applet) → g (withEvent e b x) ≡ g x)
     → (t : Tables) (m n : ℕ) (k : Kind) (b : Bool) → present t m ≡ true → g (applet (register t m k b) n) ≡ g (applet t n)
 unfolding register withRegistration applet present
 registered-kept g w t m n (Event e) b h = go (e == callControl)
@@ -69,12 +69,13 @@ registered-kept g w t m n Reserved b h = refl
 registered-kept g w t m n Unsupported b h = refl
 
 pub event-kept : {B : Type 0} (g : Applet → B) → ((e : ℕ) (b : Bool) (x : Applet) → g (withEvent e b x) ≡ g x)
-    → (m : Model) (n : ℕ) (c : EventCall) → refusal m (event c) ≡ 0
+    → ((s : ℕ) (x : Applet) → g (withPoll s x) ≡ g x) → (m : Model) (n : ℕ) (c : EventCall) → refusal m (event c) ≡ 0
     → g (applet (eventTables (m .tables) c) n) ≡ g (applet (m .tables) n)
-unfolding eventTables eventLines lines Every
-event-kept g w m n (setEvent b v) ok = registered-kept g w (m .tables) b n (kindOf v) true (is-here (m .tables) b (none-holds m (event (setEvent b v)) ok .0))
-event-kept g w m n (clearEvent b v) ok = registered-kept g w (m .tables) b n (kindOf v) false (is-here (m .tables) b (none-holds m (event (clearEvent b v)) ok .0))
-event-kept g w m n (askEvent b v) ok = refl
+unfolding eventTables eventLines lines Every applet present
+event-kept g w p m n (setEvent b v) ok = registered-kept g w (m .tables) b n (kindOf v) true (is-here (m .tables) b (none-holds m (event (setEvent b v)) ok .0))
+event-kept g w p m n (clearEvent b v) ok = registered-kept g w (m .tables) b n (kindOf v) false (is-here (m .tables) b (none-holds m (event (clearEvent b v)) ok .0))
+event-kept g w p m n (askEvent b v) ok = refl
+event-kept g w p m n (requestPoll b d) ok = with-kept (m .tables .applets) (withPoll (secondsOf d)) (λ x. refl) g (p (secondsOf d)) b n (is-here (m .tables) b (none-holds m (event (requestPoll b d)) ok .0))
 
 -- The calls on menu entries.
 pub entry-kept : {B : Type 0} (g : Applet → B) → ((x : Applet) → g (withOneMore x) ≡ g x) → (m : Model) (n : ℕ) (c : EntryCall)
@@ -85,7 +86,7 @@ entry-kept g w m n (changeEntry b i help text) ok = refl
 entry-kept g w m n (enableEntry b i) ok = refl
 entry-kept g w m n (disableEntry b i) ok = refl
 
--- What holds of each applet, and that a registration, an entry or a settled moment leaves, still does.
+-- What holds of each applet, and that a registration, a request, an entry or a settled moment leaves, still does.
 module _ (P : Applet → Type 0) where
   registered-each : ((e : ℕ) (b : Bool) (x : Applet) → P x → P (withEvent e b x)) → (t : Tables) (m : ℕ) (k : Kind) (b : Bool)
       → Every P (t .applets) → Every P (register t m k b .applets)
@@ -100,12 +101,13 @@ module _ (P : Applet → Type 0) where
   registered-each w t m Reserved b i = i
   registered-each w t m Unsupported b i = i
 
-  pub event-each : ((e : ℕ) (b : Bool) (x : Applet) → P x → P (withEvent e b x)) → (t : Tables) (c : EventCall)
-      → Every P (t .applets) → Every P (eventTables t c .applets)
+  pub event-each : ((e : ℕ) (b : Bool) (x : Applet) → P x → P (withEvent e b x)) → ((s : ℕ) (x : Applet) → P x → P (withPoll s x))
+      → (t : Tables) (c : EventCall) → Every P (t .applets) → Every P (eventTables t c .applets)
   unfolding eventTables
-  event-each w t (setEvent m v) i = registered-each w t m (kindOf v) true i
-  event-each w t (clearEvent m v) i = registered-each w t m (kindOf v) false i
-  event-each w t (askEvent m v) i = i
+  event-each w p t (setEvent m v) i = registered-each w t m (kindOf v) true i
+  event-each w p t (clearEvent m v) i = registered-each w t m (kindOf v) false i
+  event-each w p t (askEvent m v) i = i
+  event-each w p t (requestPoll m d) i = every-changes P (hasNumber m) (withPoll (secondsOf d)) (p (secondsOf d)) (t .applets) i
 
   pub entry-each : ((x : Applet) → P x → P (withOneMore x)) → (t : Tables) (c : EntryCall) → Every P (t .applets)
       → Every P (entryTables t c .applets)
@@ -140,6 +142,7 @@ unfolding eventTables
 event-numbers t (setEvent m v) = registered-numbers t m (kindOf v) true
 event-numbers t (clearEvent m v) = registered-numbers t m (kindOf v) false
 event-numbers t (askEvent m v) = refl
+event-numbers t (requestPoll m d) = keys-change numberOf nobody (withPoll (secondsOf d)) (λ x. refl) (hasNumber m) (t .applets)
 
 pub entry-numbers : (t : Tables) (c : EntryCall) → map numberOf (entryTables t c .applets) ≡ map numberOf (t .applets)
 unfolding entryTables
@@ -151,7 +154,7 @@ entry-numbers t (disableEntry m i) = refl
 pub used-numbers : (l : List Applet) → map numberOf (map usedUp l) ≡ map numberOf l
 used-numbers l = keys-map numberOf nobody usedUp (used-kept numberOf (λ b x. refl)) l
 
--- The rows and the timers, where applets only register.
+-- The rows and the timers, where applets only register and request.
 module _ {B : Type 0} (g : Tables → B) (a : (t : Tables) (l : List Applet) → g (withApplets t l) ≡ g t) (c : (t : Tables) (o : ℕ) → g (withControl t o) ≡ g t) where
   registered-same : (t : Tables) (m : ℕ) (k : Kind) (b : Bool) → g (register t m k b) ≡ g t
   unfolding register withRegistration
@@ -170,6 +173,7 @@ module _ {B : Type 0} (g : Tables → B) (a : (t : Tables) (l : List Applet) →
   event-same t (setEvent m v) = registered-same t m (kindOf v) true
   event-same t (clearEvent m v) = registered-same t m (kindOf v) false
   event-same t (askEvent m v) = refl
+  event-same t (requestPoll m d) = a t _
 
 pub event-timers : (t : Tables) (c : EventCall) → eventTables t c .timers ≡ t .timers
 event-timers t c = event-same (λ t. t .timers) (λ t l. refl) (λ t o. refl) t c

@@ -3,7 +3,7 @@
 use Prim.Native.Nat.{ℕ, _≤_, _<_}
 use native.Mathlib.Omega.{arith}
 use mathlib.Core.Path.{_≡_, refl, sym, ap, _∙_}
-use mathlib.Core.Bool.{Bool, true, false, _&&_, _||_}
+use mathlib.Core.Bool.{Bool, true, false, not, _&&_, _||_}
 use mathlib.Core.List.{List, [], _∷_}
 use lib.ListN.{getD}
 use borrow.Author.Tests.{eqb-true, eq-eqb, ltb-true, ltb-false, lt-ltb}
@@ -18,7 +18,7 @@ use Rattle.rules.specs.Holds.{Applet, Row, Tables}
 use Rattle.rules.specs.Events.{callControl}
 use Rattle.rules.specs.Applets.{hasNumber, nobody, present, applet, registered, inOrder}
 use Rattle.rules.specs.Timers.{ownerOf}
-use Rattle.rules.specs.Arrivals.{Arrival, event, choice, help, expiry, nothing, wants, called}
+use Rattle.rules.specs.Arrivals.{Arrival, event, choice, help, expiry, status, nothing, wants, called}
 use Rattle.rules.proofs.Listed.{count-inOrder}
 use Rattle.runs.specs.Sound.{SoundTables}
 use Rattle.runs.proofs.Looked.{has-its-number, absent-nobody, number-from}
@@ -93,6 +93,7 @@ module _ (t : Tables) (h : History) (s : SoundTables t) (g : AgreeTables t h) wh
   wants-named (expiry k) n p =
       ap (λ (z : ℕ). ownerOf (t .timers) k == z) (has-its-number t n p)
       ∙ g .timers k n (number-from t s n p)
+  wants-named status n p = ap (λ (s : ℕ). not (s == 0)) (g .poll n)
   wants-named nothing n p = refl
 
   -- .. and so is what a question about a registration is told

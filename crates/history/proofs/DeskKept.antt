@@ -8,8 +8,8 @@ use Rattle.lists.specs.Tests.{if_then_else_, _==_}
 use Rattle.lists.specs.Lists.{some?}
 use Rattle.rules.specs.declared.Due.{Due}
 use Rattle.rules.specs.Holds.{Tables, Desk, Model}
-use Rattle.rules.specs.Desk.{marked, withProfile, withMarks, changes, either, Matter, dueMatters, firstCommand, dueCommand, withFirst, withHandedOut}
-use Rattle.rules.specs.Calls.{Call, admin, event, entry, timer, arrival, settled, proactive, systemCommand, envelope, profile, send, response}
+use Rattle.rules.specs.Desk.{marked, withProfile, withMarks, dueAfter, Matter, dueMatters, firstCommand, dueCommand, withFirst, withHandedOut}
+use Rattle.rules.specs.Calls.{Call, admin, event, entry, timer, arrival, settled, proactive, systemCommand, envelope, profile, status, send, response}
 use Rattle.rules.specs.Step.{arrivalDesk, proactiveDesk, deskAfter, tablesAfter, changed, answer}
 use Rattle.rules.proofs.DueMarks.{command-some}
 use Rattle.history.specs.Histories.{did, History}
@@ -24,7 +24,7 @@ unfolding marked
 marks-leave g k before after d = go (d .session)
   where
     go : (b : Bool)
-        → g (if b then withMarks d (d .outstanding) (either (d .due) (changes before after)) else d) ≡ g d
+        → g (if b then withMarks d (d .outstanding) (dueAfter before after (d .due)) else d) ≡ g d
     go true = k d _
     go false = refl
 
@@ -47,6 +47,7 @@ session-after m h (entry c) g = g .session
 session-after m h (timer c) g = g .session
 session-after m h (arrival (envelope bytes)) g = g .session
 session-after m h (arrival (profile bytes)) g = refl
+session-after m h (arrival status) g = g .session
 session-after m h settled g = g .session
 session-after m h (proactive (send n bytes)) g = g .session
 session-after m h (proactive response) g = g .session
@@ -65,6 +66,7 @@ outstanding-after m h (entry c) g = g .outstanding
 outstanding-after m h (timer c) g = g .outstanding
 outstanding-after m h (arrival (envelope bytes)) g = g .outstanding
 outstanding-after m h (arrival (profile bytes)) g = refl
+outstanding-after m h (arrival status) g = g .outstanding
 outstanding-after m h settled g = g .outstanding
 outstanding-after m h (proactive (send n bytes)) g = refl
 outstanding-after m h (proactive response) g = refl

@@ -11,7 +11,7 @@ use Rattle.lists.specs.Tests.{_<?_}
 use Rattle.lists.specs.Lists.{keep}
 use Rattle.rules.specs.Holds.{Bounds, Model, document, fresh}
 use Rattle.rules.specs.Desk.{Matter, withProfile, dueMatters, withFirst, withHandedOut}
-use Rattle.rules.specs.Calls.{Call, admin, event, entry, timer, arrival, settled, proactive, systemCommand, envelope, profile, send, response}
+use Rattle.rules.specs.Calls.{Call, admin, event, entry, timer, arrival, settled, proactive, systemCommand, envelope, profile, status, send, response}
 use Rattle.rules.specs.Refusals.{firstHolding, refusal}
 use Rattle.rules.specs.Step.{arrivalDesk, proactiveDesk, deskAfter, tablesAfter, changed, answer, outcome, step}
 use Rattle.rules.specs.Beside.{freshBy, freshCard}
@@ -62,6 +62,7 @@ profile-after x h (entry c) e = e
 profile-after x h (timer c) e = e
 profile-after x h (arrival (envelope bytes)) e = e
 profile-after x h (arrival (profile bytes)) e = refl
+profile-after x h (arrival status) e = e
 profile-after x h settled e = e
 profile-after x h (proactive (send n bytes)) e = e
 profile-after x h (proactive response) e = e

@@ -8,7 +8,7 @@ use mathlib.Core.List.{List, [], _∷_}
 use lib.ListN.{length, getD, drop, drop-of-length-le}
 use lib.Seq.{drop-cons}
 use Rattle.lists.specs.Tests.{if_then_else_, _==_}
-use Rattle.lists.specs.Lists.{first, count, times}
+use Rattle.lists.specs.Lists.{some?, first, count, in?, times}
 use Rattle.lists.proofs.Every.{every-all}
 use Rattle.lists.proofs.Sums.{sum-turned, sum-alike, sum-ones}
 use Rattle.lists.proofs.Times.{sum-counts, each-time}
@@ -27,6 +27,10 @@ from-1-to-8 P p (suc (suc (suc (suc (suc (suc zero)))))) a b = p .5
 from-1-to-8 P p (suc (suc (suc (suc (suc (suc (suc zero))))))) a b = p .6
 from-1-to-8 P p (suc (suc (suc (suc (suc (suc (suc (suc zero)))))))) a b = p .7
 from-1-to-8 P p (suc (suc (suc (suc (suc (suc (suc (suc (suc n))))))))) a b = absurd (omega arith)
+
+pub among-eight : (n : ℕ) → 1 ≤ n → n ≤ 8 → in? n oneToEight ≡ true
+unfolding in? some? oneToEight
+among-eight = from-1-to-8 (λ n. in? n oneToEight ≡ true) (refl, refl, refl, refl, refl, refl, refl, refl)
 
 -- a number up to 8 is the one that passes the test for it
 itself : (o : ℕ) → o ≤ 8 → theOne (λ n. o == n) ≡ o

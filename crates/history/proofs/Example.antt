@@ -1,4 +1,4 @@
--- The look-backs on examples, by computation: an order form with equal titles, a release, a delete, a locked one-shot, a screen.
+-- The look-backs on examples, by computation: an order form with equal titles, a release, a delete, a locked one-shot, a screen, polling.
 -- Assumes nothing.
 use Prim.Native.Nat.{ℕ}
 use mathlib.Core.Path.{_≡_, refl, ap}
@@ -6,21 +6,22 @@ use mathlib.Core.Bool.{true, false}
 use mathlib.Core.List.{List, [], _∷_, map}
 use lib.IntN.{pos}
 use lib.ListN.{replicate}
-use Rattle.lists.specs.Text.{ascii}
+use Rattle.lists.specs.Text.{ascii, bytes}
 use Rattle.lists.proofs.Decided.{clashing}
 use Rattle.rules.specs.Holds.{Row, document}
 use Rattle.rules.specs.Commands.{Item}
 use Rattle.rules.specs.Runs.{cardAfter}
-use Rattle.rules.specs.Desk.{menu, eventList, dueMatters}
-use Rattle.rules.specs.Calls.{Call, AdminCall, admin, event, entry, timer, arrival, settled, proactive, systemCommand, lock, unlock, delete, setEvent, newEntry, changeEntry, disableEntry, allocate, release, profile, response}
+use Rattle.rules.specs.Desk.{menu, eventList, pollInterval, pollingOff, dueMatters}
+use Rattle.rules.specs.Calls.{Call, AdminCall, admin, event, entry, timer, arrival, settled, proactive, systemCommand, lock, unlock, delete, setEvent, requestPoll, newEntry, changeEntry, disableEntry, allocate, release, profile, response}
 use Rattle.rules.proofs.Compute.{compute}
 use Rattle.rules.specs.Cases.{plain}
 use Rattle.history.specs.Histories.{accepted}
 use Rattle.history.specs.Deeds.{isSettled}
 use Rattle.history.specs.Named.{hasOneShot, timerOwner, rowsNamed}
 use Rattle.history.specs.Named as named′
+use Rattle.history.specs.Called as called′
 use Rattle.history.specs.Runs.{historyOf}
-use Rattle.history.specs.Handed.{seenOf, screen, codesHanded}
+use Rattle.history.specs.Handed.{seenOf, handedSince, screen, codesHanded, lastPolling, intervalNamed}
 use Rattle.history.specs.Handed as handed′
 use Rattle.history.proofs.Open.{reading}
 use Rattle.history.proofs.Promises.{past}
@@ -60,6 +61,20 @@ locked = admin (lock 1) ∷ handOut ∷ proactive response ∷ first
 abbrev again : List Call
 again = handOut ∷ proactive response ∷ handOut ∷ proactive response ∷ locked
 
+-- a session with two applets that request 300 and 20 seconds; the second is locked, then the first, and what is due is handed out each time
+abbrev polled : List Call
+polled = handOut ∷ arrival (profile (1 ∷ [])) ∷ event (requestPoll 2 (pos 20)) ∷ event (requestPoll 1 (pos 300)) ∷ plain 2 0 0 ∷ plain 1 0 0 ∷ []
+
+abbrev slower : List Call
+slower = handOut ∷ proactive response ∷ admin (lock 2) ∷ polled
+
+abbrev unpolled : List Call
+unpolled = admin (lock 1) ∷ slower
+
+-- the command for polling that was last handed out
+abbrev lastHanded : List Call → List ℕ
+lastHanded calls = lastPolling (handedSince (seenOf [] calls))
+
 -- the identifiers on the screen
 abbrev onScreen : List Call → List ℕ
 onScreen calls = map (λ (i : Item). i .identifier) (screen [] (seenOf [] calls) .items)
@@ -84,9 +99,18 @@ pub record Examples : Type 0 where
   pub three-shown : onScreen again ≡ 131 ∷ 132 ∷ 133 ∷ []
   pub one-code : codesHanded (seenOf [] locked) ≡ 0x00 ∷ []
   pub no-code : codesHanded (seenOf [] again) ≡ []
+  -- the smallest request is named and handed out in seconds; with its applet locked the other's, in minutes; with both locked none is named
+  pub twenty-named : intervalNamed (past [] polled) ≡ 20
+  pub twenty-handed : lastHanded polled ≡ bytes "D0 0D 81 03 01 03 00 82 02 81 82 84 02 01 14"
+  pub five-minutes : lastHanded slower ≡ bytes "D0 0D 81 03 01 03 00 82 02 81 82 84 02 00 05"
+  pub none-named : intervalNamed (past [] unpolled) ≡ 0
+  pub off-due : dueMatters (cardAfter document [] unpolled .desk .due) ≡ pollingOff ∷ []
+  pub off-handed : lastHanded (handOut ∷ proactive response ∷ unpolled) ≡ bytes "D0 09 81 03 01 04 00 82 02 81 82"
+  -- the first unlocked again before that: POLL INTERVAL is due, and POLLING OFF no more
+  pub interval-due : dueMatters (cardAfter document [] (admin (unlock 1) ∷ unpolled) .desk .due) ≡ pollInterval ∷ []
 
 pub examples : Examples
-unfolding compute accepted historyOf reading named′.isSelectable named′.isRegistered named′.usesUp named′.hasOneShot named′.ownsTimer named′.oneToEight named′.theOne named′.timerOwner named′.rowMade named′.rowsSince named′.rowsNamed handed′.seenOf handed′.handed handed′.begins handed′.handedSince handed′.lastMenu handed′.screen handed′.codesIn handed′.isEventList handed′.lastList handed′.codesHanded
+unfolding compute accepted historyOf reading named′.isSelectable named′.isRegistered named′.usesUp named′.hasOneShot named′.ownsTimer named′.oneToEight named′.theOne named′.timerOwner named′.rowMade named′.rowsSince named′.rowsNamed handed′.seenOf handed′.handed handed′.begins handed′.handedSince handed′.lastMenu handed′.screen handed′.codesIn handed′.isEventList handed′.lastList handed′.codesHanded named′.pollOf called′.isNamed called′.isDue handed′.isPolling handed′.lastPolling handed′.intervalNamed
 examples =
     record {
       six-rows = refl;
@@ -103,6 +127,13 @@ examples =
       three-shown = refl;
       one-code = refl;
       no-code = refl;
+      twenty-named = refl;
+      twenty-handed = refl;
+      five-minutes = refl;
+      none-named = refl;
+      off-due = refl;
+      off-handed = refl;
+      interval-due = refl;
     }
 
 -- A one-shot that is set, locked over a settled moment, and unlocked: the next settled moment calls it, and the one after that does not.

@@ -4,99 +4,48 @@ use Prim.Native.Nat.{ℕ, zero, suc}
 use native.Mathlib.Omega.{arith}
 use mathlib.Core.Path.{_≡_, refl, sym, ap, subst, _∙_}
 use mathlib.Core.Bool.{Bool, true, false, not, _&&_, false≢true}
-use mathlib.Core.List.{List, [], _∷_, _++_}
-use lib.ListN.{length, take, drop}
+use mathlib.Core.List.{List, [], _∷_}
+use lib.ListN.{take}
 use lib.Seq.{take-nil, take-append-seam}
 use lib.Dec.{eqb·suc-zero}
-use borrow.Author.Tests.{ltb-true, ne-eqb}
-use Rattle.lists.specs.Tests.{if_then_else_, _==_, _<?_}
+use Rattle.lists.specs.Tests.{if_then_else_, _==_}
 use Rattle.lists.specs.Lists.{alike?, same?, empty?, first}
 use Rattle.lists.proofs.Decided.{both, clashing, neither}
 use Rattle.lists.proofs.Truth.{and-false}
-use Rattle.lists.proofs.Alike.{same-self}
 use Rattle.rules.specs.Holds.{Row, Tables, Desk, Model, document}
-use Rattle.rules.specs.Bytes.{byte}
-use Rattle.rules.specs.Commands.{Menu, shownMenu, shownEvents, menuOf, lengthBytes, commandBytes, detailBytes, menuValue, menuBytes, eventBytes, valueOf, readMenu, mayStand, isMenu}
-use Rattle.rules.specs.Desk.{sameRow?, menuChanges, eventsChange, changes, either, marked, withMarks, shownSome, withProfile, menu, eventList, handedOut, dueCommand, withHandedOut}
-use Rattle.rules.specs.Calls.{Call, refusedWith, admin, event, entry, timer, arrival, settled, proactive, systemCommand, envelope, profile, send, response}
+use Rattle.rules.specs.Commands.{Menu, shownMenu, shownEvents, interval, menuOf, menuBytes, eventBytes, intervalBytes, offBytes, mayStand}
+use Rattle.rules.specs.Desk.{sameRow?, menuChanges, eventsChange, intervalChanges, isPolled, dueAfter, marked, withMarks, dueAtFirst, withProfile, menu, eventList, pollInterval, pollingOff, handedOut, dueCommand, withHandedOut}
+use Rattle.rules.specs.Calls.{Call, refusedWith, admin, event, entry, timer, arrival, settled, proactive, systemCommand, envelope, profile, status, send, response}
 use Rattle.rules.specs.Refusals.{refusal}
 use Rattle.rules.specs.Step.{arrivalDesk, proactiveDesk, deskAfter, tablesAfter, changed, answer, lent, front, written, outcome, step}
 use Rattle.rules.specs.Beside.{freshBy, freshCard}
 use Rattle.rules.specs.Runs.{cardAfter}
 use Rattle.rules.proofs.DueMarks.{first-due, first-handed}
-use Rattle.rules.proofs.Reader.{same-true, accepts, only-written}
+use Rattle.rules.proofs.Reader.{same-true, accepts}
 use Rattle.history.specs.Deeds.{isProfile, profiles}
-use Rattle.history.specs.Handed.{titleOf, Seen, seen, seenOf, handed, begins, handedSince, lastMenu, lastList, codesIn, isEventList}
+use Rattle.history.specs.Handed.{titleOf, Seen, seen, seenOf, handed, begins, handedSince, lastMenu, lastList}
 use Rattle.history.proofs.RowsNamed.{same-row}
 use Rattle.history.proofs.Agrees.{plain, ground}
 use Rattle.history.proofs.Agree.{Ground}
 use Rattle.history.proofs.Stands.{shown-stands}
-
--- A MENU IS NO EVENT LIST, nor the reverse: the type stands at 3 of the value.
-behind-length : (v : List ℕ) → valueOf (commandBytes v) ≡ v
-unfolding valueOf commandBytes lengthBytes
-behind-length v = go (length v <? 0x80) refl
-  where
-    go : (b : Bool) → (length v <? 0x80) ≡ b → valueOf (0xD0 ∷ (if b then length v ∷ [] else 0x81 ∷ length v ∷ []) ++ v) ≡ v
-    go true e = rw (ne-eqb (length v) 0x81 (λ z. absurd (omega (arith, ltb-true (length v) 0x80 e)))) refl
-    go false e = refl
-
-apart : (m : Menu) (l : List ℕ) → menuBytes m ≡ eventBytes l → ⊥
-unfolding menuBytes menuValue eventBytes detailBytes
-apart m l e =
-    let w : _≡_ {A = ℕ} 0x25 0x05 =
-    sym (ap (λ (v : List ℕ). byte v 3) (behind-length (menuValue m)))
-    ∙ ap (λ (s : List ℕ). byte (valueOf s) 3) e
-    ∙ ap (λ (v : List ℕ). byte v 3) (behind-length (detailBytes 0x05 0x00 ++ 0x99 ∷ length l ∷ l)) in
-    omega arith
-
-list-no-menu : (l : List ℕ) → isMenu document (eventBytes l) ≡ false
-list-no-menu l = go (isMenu document (eventBytes l)) refl
-  where
-    go : (b : Bool) → isMenu document (eventBytes l) ≡ b → b ≡ false
-    go true e = absurd (apart (readMenu document (eventBytes l)) l (only-written document (eventBytes l) e .written))
-    go false e = refl
-
-menu-no-list : (m : Menu) → isEventList (menuBytes m) ≡ false
-unfolding isEventList
-menu-no-list m = go (isEventList (menuBytes m)) refl
-  where
-    go : (b : Bool) → isEventList (menuBytes m) ≡ b → b ≡ false
-    go true e = absurd (apart m (codesIn (menuBytes m)) (sym (same-true (eventBytes (codesIn (menuBytes m))) (menuBytes m) e)))
-    go false e = refl
-
--- no bytes are neither
-none-no-menu : isMenu document [] ≡ false
-unfolding isMenu same? alike? menuBytes commandBytes
-none-no-menu = and-false (mayStand document (readMenu document []))
-
-none-no-list : isEventList [] ≡ false
-unfolding isEventList same? alike? eventBytes commandBytes
-none-no-list = refl
-
--- the codes come back, and so a list is one
-pub codes-back : (l : List ℕ) → codesIn (eventBytes l) ≡ l
-unfolding codesIn eventBytes detailBytes
-codes-back l = ap (drop 11) (behind-length (detailBytes 0x05 0x00 ++ 0x99 ∷ length l ∷ l))
-
-list-is-one : (l : List ℕ) → isEventList (eventBytes l) ≡ true
-unfolding isEventList
-list-is-one l = rw (codes-back l) (same-self (eventBytes l))
+use Rattle.history.proofs.Types.{typeOf, its-type, none-typed, menu-typed, list-typed, interval-typed, off-typed, past-menu, past-list, past-polling, the-list}
+use Rattle.history.proofs.Polling.{PollingRight, polling-passed, interval-handed, off-handed, interval-changed, interval-unseen, polling-unbegun, polling-begun}
 
 -- THE INVARIANT, over the card's title, the tables, the desk and the commands handed out since the profile.
 pub record Right (took : List ℕ) (t : Tables) (d : Desk) (commands : List (List ℕ)) : Type 0 where
   pub title : d .title ≡ took
   pub menu : d .session ≡ true → d .due .menu ≡ false → lastMenu (d .title) commands ≡ menuBytes (menuOf (d .title) (shownMenu t))
   pub events : d .session ≡ true → d .due .events ≡ false → lastList commands ≡ eventBytes (shownEvents t)
+  pub polling : PollingRight (interval t) (d .session) (d .due .interval) (d .due .off) commands
 
 -- a call that hands out nothing
 nothing-handed : (title : List ℕ) (t : Tables) (d : Desk) (k : List (List ℕ)) → Right title t d k → Right title t d ([] ∷ k)
-unfolding lastMenu lastList first
 nothing-handed title t d k r =
     record {
       title = r .title;
-      menu = λ s q. ap (λ (b : Bool). if b then [] else lastMenu (d .title) k) none-no-menu ∙ r .menu s q;
-      events = λ s q. ap (λ (b : Bool). if b then [] else lastList k) none-no-list ∙ r .events s q;
+      menu = λ s q. past-menu [] k (d .title) (λ e. omega (arith, none-typed)) ∙ r .menu s q;
+      events = λ s q. past-list [] k (λ e. omega (arith, none-typed)) ∙ r .events s q;
+      polling = polling-passed _ _ _ _ k (r .polling) [] (past-polling [] k (λ e. omega (arith, none-typed)) (λ e. omega (arith, none-typed)));
     }
 
 -- a profile: nothing is handed out since, and what is not empty is due
@@ -106,37 +55,89 @@ is-empty [] e = refl
 is-empty (x ∷ l) e = clashing refl e
 
 profiled : (title : List ℕ) (t : Tables) (bytes : List ℕ) (d : Desk) → d .title ≡ title → Right title t (withProfile t bytes d) []
-unfolding withProfile shownSome lastMenu lastList first
+unfolding withProfile dueAtFirst isPolled lastMenu lastList first
 profiled title t bytes d e =
     record {
       title = e;
       menu = λ s q. ap (λ (l : List Row). menuBytes (menuOf (d .title) l)) (sym (is-empty (shownMenu t) q));
       events = λ s q. ap eventBytes (sym (is-empty (shownEvents t) q));
+      polling = polling-begun (interval t);
     }
 
--- a hand-out: of the menu, of the event list, of nothing
-handing : (title : List ℕ) (t : Tables) (d : Desk) (k : List (List ℕ)) → mayStand document (menuOf (d .title) (shownMenu t)) ≡ true → Right title t d k
-    → Right title t (withHandedOut d) (dueCommand t d ∷ k)
-unfolding handedOut lastMenu lastList first
-handing title t d k may r = rw (first-handed d, first-due t d) (go (d .due .menu) (d .due .events))
-  where
-    go : (a b : Bool)
-        → Right title t
-        (if a then withMarks d true (handedOut menu (d .due)) else if b then withMarks d true (handedOut eventList (d .due)) else d)
-        ((if a then menuBytes (menuOf (d .title) (shownMenu t)) else if b then eventBytes (shownEvents t) else []) ∷ k)
-    go true b =
-        record {
-          title = r .title;
-          menu = λ s q. rw (accepts document (menuOf (d .title) (shownMenu t)) may) refl;
-          events = λ s q. rw (menu-no-list (menuOf (d .title) (shownMenu t))) (r .events s q);
-        }
-    go false true =
-        record {
-          title = r .title;
-          menu = λ s q. rw (list-no-menu (shownEvents t)) (r .menu s q);
-          events = λ s q. rw (list-is-one (shownEvents t)) refl;
-        }
-    go false false = nothing-handed title t d k r
+-- a hand-out: of the menu, of the event list, of one of the two for polling, of nothing
+module _ (title : List ℕ) (t : Tables) (d : Desk) (k : List (List ℕ)) (r : Right title t d k) where
+  -- the menu and the list that were last handed out stay the last when a command of another type is handed out
+  other-menu : (c : List ℕ) → (typeOf c ≡ 0x25 → ⊥) → d .session ≡ true → d .due .menu ≡ false → lastMenu (d .title) (c ∷ k) ≡ menuBytes (menuOf (d .title) (shownMenu t))
+  other-menu c h s q = past-menu c k (d .title) h ∙ r .menu s q
+
+  other-list : (c : List ℕ) → (typeOf c ≡ 0x05 → ⊥) → d .session ≡ true → d .due .events ≡ false → lastList (c ∷ k) ≡ eventBytes (shownEvents t)
+  other-list c h s q = past-list c k h ∙ r .events s q
+
+  other-polling : (c : List ℕ) → (typeOf c ≡ 0x04 → ⊥) → (typeOf c ≡ 0x03 → ⊥) → PollingRight (interval t) (d .session) (d .due .interval) (d .due .off) (c ∷ k)
+  other-polling c h g = polling-passed _ _ _ _ k (r .polling) c (past-polling c k h g)
+
+  abbrev x : Menu
+  x = menuOf (d .title) (shownMenu t)
+
+  menu-out : mayStand document x ≡ true → Right title t (withMarks d true (handedOut menu (d .due))) (menuBytes x ∷ k)
+  unfolding handedOut lastMenu first
+  menu-out may =
+      let w : typeOf (menuBytes x) ≡ 0x25 = its-type 0x25 (menuBytes x) (menu-typed x) in
+      record {
+        title = r .title;
+        menu = λ s q. rw (accepts document x may) refl;
+        events = other-list (menuBytes x) (λ e. omega arith);
+        polling = other-polling (menuBytes x) (λ e. omega arith) (λ e. omega arith);
+      }
+
+  list-out : Right title t (withMarks d true (handedOut eventList (d .due))) (eventBytes (shownEvents t) ∷ k)
+  unfolding handedOut
+  list-out =
+      let c = eventBytes (shownEvents t) in
+      let w : typeOf c ≡ 0x05 = its-type 0x05 c (list-typed (shownEvents t)) in
+      record {
+        title = r .title;
+        menu = other-menu c (λ e. omega arith);
+        events = λ s q. the-list k (shownEvents t);
+        polling = other-polling c (λ e. omega arith) (λ e. omega arith);
+      }
+
+  interval-out : d .due .interval ≡ true → Right title t (withMarks d true (handedOut pollInterval (d .due))) (intervalBytes (interval t) ∷ k)
+  unfolding handedOut
+  interval-out due =
+      let c = intervalBytes (interval t) in
+      let w : typeOf c ≡ 0x03 = its-type 0x03 c (interval-typed (interval t)) in
+      record {
+        title = r .title;
+        menu = other-menu c (λ e. omega arith);
+        events = other-list c (λ e. omega arith);
+        polling = interval-handed _ _ _ _ k (r .polling) due;
+      }
+
+  off-out : d .due .off ≡ true → Right title t (withMarks d true (handedOut pollingOff (d .due))) (offBytes ∷ k)
+  unfolding handedOut
+  off-out due =
+      let w : typeOf offBytes ≡ 0x04 = its-type 0x04 offBytes off-typed in
+      record {
+        title = r .title;
+        menu = other-menu offBytes (λ e. omega arith);
+        events = other-list offBytes (λ e. omega arith);
+        polling = off-handed _ _ _ _ k (r .polling) due;
+      }
+
+  handing : mayStand document x ≡ true → Right title t (withHandedOut d) (dueCommand t d ∷ k)
+  handing may = rw (first-handed d, first-due d t) (go (d .due .menu) (d .due .events) (d .due .interval) (d .due .off) refl refl)
+    where
+      go : (a b i o : Bool) → d .due .interval ≡ i → d .due .off ≡ o
+          → Right title t
+          (if a then withMarks d true (handedOut menu (d .due)) else if b then withMarks d true (handedOut eventList (d .due)) else
+          if i then withMarks d true (handedOut pollInterval (d .due)) else if o then withMarks d true (handedOut pollingOff (d .due)) else d)
+          ((if a then menuBytes x else if b then eventBytes (shownEvents t) else if i then intervalBytes (interval t) else if o then offBytes else []) ∷ k)
+      go true b i o p q = menu-out may
+      go false true i o p q = list-out
+      go false false true o p q = interval-out p
+      go false false false true p q = off-out q
+      go false false false false p q = nothing-handed title t d k r
 
 -- THE MARKS: what changes is due.
 same-rows : (l k : List Row) → not (alike? sameRow? l k) ≡ false → l ≡ k
@@ -163,11 +164,11 @@ same-codes l k e = go (same? l k) refl e
 
 marks-right : (title : List ℕ) (before after : Tables) (d : Desk) (k : List (List ℕ)) → Right title before d k
     → Right title after (marked before after d) k
-unfolding marked either changes menuChanges eventsChange
+unfolding marked dueAfter menuChanges eventsChange intervalChanges isPolled
 marks-right title before after d k r = go (d .session) refl
   where
     go : (s : Bool) → d .session ≡ s
-        → Right title after (if s then withMarks d (d .outstanding) (either (d .due) (changes before after)) else d) k
+        → Right title after (if s then withMarks d (d .outstanding) (dueAfter before after (d .due)) else d) k
     go true e =
         record {
           title = r .title;
@@ -177,8 +178,9 @@ marks-right title before after d k r = go (d .session) refl
           events =
               λ s q. let h = neither (d .due .events) (eventsChange before after) q in
               r .events e (h .0) ∙ ap eventBytes (same-codes (shownEvents before) (shownEvents after) (h .1));
+          polling = interval-changed _ _ _ _ k (r .polling) e (interval after);
         }
-    go false e = record { title = r .title; menu = λ s q. clashing s e; events = λ s q. clashing s e }
+    go false e = record { title = r .title; menu = λ s q. clashing s e; events = λ s q. clashing s e; polling = interval-unseen _ _ _ _ k (r .polling) e (interval after) }
 
 -- ONE CALL. An accepted one, seen from outside ..
 abbrev taken : Model → Call → Seen
@@ -218,13 +220,14 @@ module _ (title : List ℕ) (m : Model) (l : List Seen) (g : Ground m) (r : Righ
   desk-right (arrival (envelope bytes)) = quiet (arrival (envelope bytes)) (m .desk) refl refl r
   desk-right (arrival (profile bytes)) =
       subst (Right title (m .tables) _) (sym (starts m (arrival (profile bytes)) l refl)) (profiled title (m .tables) bytes (m .desk) (r .title))
+  desk-right (arrival status) = quiet (arrival status) (m .desk) refl refl r
   desk-right settled = quiet settled (m .desk) refl refl r
-  desk-right (proactive (send n bytes)) = quiet (proactive (send n bytes)) _ refl refl (record { title = r .title; menu = r .menu; events = r .events })
-  desk-right (proactive response) = quiet (proactive response) _ refl refl (record { title = r .title; menu = r .menu; events = r .events })
+  desk-right (proactive (send n bytes)) = quiet (proactive (send n bytes)) _ refl refl (record { title = r .title; menu = r .menu; events = r .events; polling = r .polling })
+  desk-right (proactive response) = quiet (proactive response) _ refl refl (record { title = r .title; menu = r .menu; events = r .events; polling = r .polling })
   desk-right (systemCommand buffer) =
       subst (Right title (m .tables) _)
       (sym (goes-on m (systemCommand buffer) l refl ∙ ap (λ (b : List ℕ). b ∷ handedSince l) (take-append-seam (dueCommand (m .tables) (m .desk)) _)))
-      (handing title (m .tables) (m .desk) (handedSince l) (shown-stands m (g .sound) (g .bounds)) r)
+      (handing title (m .tables) (m .desk) (handedSince l) r (shown-stands m (g .sound) (g .bounds)))
 
   -- and any call
   one-call : (c : Call) (n : ℕ)
@@ -237,8 +240,8 @@ module _ (title : List ℕ) (m : Model) (l : List Seen) (g : Ground m) (r : Righ
 -- ANY SEQUENCE OF CALLS on a fresh card: no session has begun on it.
 right-start : (n : ℕ) (title : List ℕ) → Right (freshBy n document title .card .desk .title) (freshBy n document title .card .tables) (freshBy n document title .card .desk) []
 unfolding freshBy
-right-start zero title = record { title = refl; menu = λ s q. absurd (false≢true s); events = λ s q. absurd (false≢true s) }
-right-start (suc n) title = record { title = refl; menu = λ s q. absurd (false≢true s); events = λ s q. absurd (false≢true s) }
+right-start zero title = record { title = refl; menu = λ s q. absurd (false≢true s); events = λ s q. absurd (false≢true s); polling = polling-unbegun _ }
+right-start (suc n) title = record { title = refl; menu = λ s q. absurd (false≢true s); events = λ s q. absurd (false≢true s); polling = polling-unbegun _ }
 
 pub right : (title : List ℕ) (calls : List Call)
     → Right (titleOf title) (cardAfter document title calls .tables) (cardAfter document title calls .desk) (handedSince (seenOf title calls))

@@ -14,6 +14,8 @@ pub mod Fits
 pub mod Eight
 pub mod Promises
 pub mod Stands
+pub mod Types
+pub mod Polling
 pub mod Handing
 pub mod Shown
 pub mod HandOuts

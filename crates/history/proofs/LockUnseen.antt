@@ -1,5 +1,5 @@
--- NO REGISTRATION CALL LOOKS AT THE LOCK (000, 6.3): with an applet locked or unlocked, a call about events, menu entries or timers
--- answers the same, and does the same to the tables. Of every card. Assumes nothing.
+-- NO REGISTRATION CALL LOOKS AT THE LOCK (000, 6.3): with an applet locked or unlocked, a call about events, polling, menu entries or
+-- timers answers the same, and does the same to the tables. Of every card. Assumes nothing.
 use Prim.Native.Nat.{ℕ, zero, suc}
 use mathlib.Core.Path.{_≡_, refl, ap, ap₂, _∙_}
 use mathlib.Core.Bool.{Bool, true, false, not, _||_}
@@ -11,16 +11,16 @@ use Rattle.lists.proofs.Decided.{clashing}
 use Rattle.lists.proofs.Matched.{Matched, matched-change, matched-some, matched-first}
 use Rattle.rules.specs.declared.Kind.{Kind}
 use Rattle.rules.specs.declared.Kind.the-variants.{Event, Issuer, Reserved, Unsupported}
-use Rattle.rules.specs.Holds.{Applet, Tables, Model, withApplets, withRows, withControl, withSelectable, withEvent, withOneMore}
+use Rattle.rules.specs.Holds.{Applet, Tables, Model, withApplets, withRows, withControl, withSelectable, withEvent, withOneMore, withPoll}
 use Rattle.rules.specs.Events.{callControl, kindOf}
-use Rattle.rules.specs.Applets.{isNumber, hasNumber, present, nobody, applet, registered, isRegistered, ownedByAnother, forget, withRegistration, register}
+use Rattle.rules.specs.Applets.{isNumber, hasNumber, present, nobody, applet, registered, isRegistered, ownedByAnother, forget, withRegistration, register, secondsOf}
 use Rattle.rules.specs.Rows.{nextPair, nextIdentifier, allMade, notItsRow, badText, withEntry}
 use Rattle.rules.specs.Timers.{atLimit, noneFree}
-use Rattle.rules.specs.Calls.{saying, numbered, Call, admin, event, entry, timer, arrival, settled, proactive, systemCommand, EventCall, setEvent, clearEvent, askEvent, EntryCall, newEntry, changeEntry, enableEntry, disableEntry, TimerCall, allocate, release}
+use Rattle.rules.specs.Calls.{saying, numbered, Call, admin, event, entry, timer, arrival, settled, proactive, systemCommand, EventCall, setEvent, clearEvent, askEvent, requestPoll, EntryCall, newEntry, changeEntry, enableEntry, disableEntry, TimerCall, allocate, release}
 use Rattle.rules.specs.Refusals.{line, firstHolding, absent, eventLines, entryLines, timerLines, lines, refusal}
 use Rattle.rules.specs.Step.{eventTables, entryTables, timerTables, tablesAfter, changed, eventAnswer, entryAnswer, timerAnswer, answer, outcome, step}
 
--- the registration calls: those about events, menu entries and timers
+-- the registration calls: those about events and polling, menu entries and timers
 unfoldable pub registers? : Call → Bool
 registers? (admin c) = false
 registers? (event c) = true
@@ -75,6 +75,7 @@ module _ (k : ℕ) (b : Bool) where
     event-lines (setEvent n v) = rw (there n) refl
     event-lines (clearEvent n v) = rw (there n) refl
     event-lines (askEvent n v) = rw (there n) refl
+    event-lines (requestPoll n d) = rw (there n) refl
 
     entry-lines : (c : EntryCall) → entryLines (withLock t) c ≡ entryLines t c
     unfolding entryLines absent allMade badText
@@ -107,6 +108,7 @@ module _ (k : ℕ) (b : Bool) where
     event-tables (setEvent n v) = register-tables n (kindOf v) true
     event-tables (clearEvent n v) = register-tables n (kindOf v) false
     event-tables (askEvent n v) = refl
+    event-tables (requestPoll n d) = ap (withApplets t) (change-swap (hasNumber n) (hasNumber k) (withPoll (secondsOf d)) (withSelectable b) (λ x. refl) (λ x. refl) (λ x. refl) (t .applets))
 
     entry-tables : (c : EntryCall) → entryTables (withLock t) c ≡ withLock (entryTables t c)
     unfolding entryTables withEntry nextPair nextIdentifier
@@ -134,6 +136,7 @@ module _ (k : ℕ) (b : Bool) where
         told Issuer = refl
         told Reserved = refl
         told Unsupported = refl
+    event-answer (requestPoll n d) = refl
 
     entry-answer : (c : EntryCall) → entryAnswer (withLock t) c ≡ entryAnswer t c
     unfolding entryAnswer nextIdentifier nextPair

@@ -17,8 +17,8 @@ use Rattle.rules.specs.declared.Envelope.{Envelope}
 use Rattle.rules.specs.declared.Envelope.the-variants.{Menu, Call as CallControl, Download, Expiry, Unrecognized, Malformed}
 use Rattle.rules.specs.Events.{handlerAvailable, codes, named, kindOfCode}
 use Rattle.rules.specs.Envelopes.{envelopeOf}
-use Rattle.rules.specs.Arrivals.{Arrival, event, choice, help, expiry, nothing, download, arrivalOf, settledArrival}
-use Rattle.rules.specs.Calls.{Call, admin, event as eventCall, entry, timer, arrival, settled, proactive, systemCommand, setEvent, envelope, profile}
+use Rattle.rules.specs.Arrivals.{Arrival, event, choice, help, expiry, status, nothing, download, arrivalOf, settledArrival}
+use Rattle.rules.specs.Calls.{Call, admin, event as eventCall, entry, timer, arrival, settled, proactive, systemCommand, setEvent, envelope, profile, status as statusCall}
 use Rattle.rules.specs.Step.{step}
 use Rattle.rules.proofs.Compute.{compute}
 use Rattle.rules.proofs.OnRefusal.{refused}
@@ -158,13 +158,14 @@ module _ (title : List ℕ) (n : ℕ) where
         not-after = used-silent later _ unset gone;
       }
 
--- ONLY A SETTLED MOMENT ARRIVES AS THAT EVENT: no envelope does, whatever its bytes, and no profile.
+-- ONLY A SETTLED MOMENT ARRIVES AS THAT EVENT: no envelope does, whatever its bytes, no profile and no STATUS.
 -- the place of an event that arrives; 0 for what is no event
 abbrev placeOf : Arrival → ℕ
 placeOf (event e) = e
 placeOf (choice i) = 0
 placeOf (help i) = 0
 placeOf (expiry k) = 0
+placeOf status = 0
 placeOf nothing = 0
 
 download-below : (code : ℕ) (k : Kind) → kindOfCode code ≡ k → placeOf (download k) < 19
@@ -192,6 +193,7 @@ only-settled-arrives-so (entry c) e = absurd (omega (arith, ap placeOf e))
 only-settled-arrives-so (timer c) e = absurd (omega (arith, ap placeOf e))
 only-settled-arrives-so (arrival (envelope bytes)) e = absurd (omega (arith, ap placeOf e, envelope-below (envelopeOf bytes)))
 only-settled-arrives-so (arrival (profile bytes)) e = absurd (omega (arith, ap placeOf e))
+only-settled-arrives-so (arrival statusCall) e = absurd (omega (arith, ap placeOf e))
 only-settled-arrives-so settled e = refl
 only-settled-arrives-so (proactive c) e = absurd (omega (arith, ap placeOf e))
 only-settled-arrives-so (systemCommand buffer) e = absurd (omega (arith, ap placeOf e))

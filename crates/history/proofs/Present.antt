@@ -83,7 +83,7 @@ selectability-kept m h (admin (lock b)) ok s g n =
 selectability-kept m h (admin (unlock b)) ok s g n =
     locked (m .tables .applets) b n true (is-here (m .tables) b (none-holds m (admin (unlock b)) ok .0))
     ∙ decided b n true (g .selectability n)
-selectability-kept m h (event c) ok s g n = event-kept (λ x. x .selectable) (λ e v x. refl) m n c ok ∙ g .selectability n
+selectability-kept m h (event c) ok s g n = event-kept (λ x. x .selectable) (λ e v x. refl) (λ d x. refl) m n c ok ∙ g .selectability n
 selectability-kept m h (entry c) ok s g n = entry-kept (λ x. x .selectable) (λ x. refl) m n c ok ∙ g .selectability n
 selectability-kept m h (timer (allocate b)) ok s g n = g .selectability n
 selectability-kept m h (timer (release b k)) ok s g n = g .selectability n
@@ -108,7 +108,7 @@ priorities-kept m h (admin (install b r)) ok s g =
 priorities-kept m h (admin (delete b)) ok s g = every-so _ (Ranked h) (λ x p. p .0) (keep (λ x. not (hasNumber b x)) (m .tables .applets)) (every-keep (Ranked h) _ (m .tables .applets) (g .priorities))
 priorities-kept m h (admin (lock b)) ok s g = every-changes (Ranked h) (hasNumber b) (withSelectable false) (λ x p. p) (m .tables .applets) (g .priorities)
 priorities-kept m h (admin (unlock b)) ok s g = every-changes (Ranked h) (hasNumber b) (withSelectable true) (λ x p. p) (m .tables .applets) (g .priorities)
-priorities-kept m h (event c) ok s g = event-each (Ranked h) (λ e v x p. p) (m .tables) c (g .priorities)
+priorities-kept m h (event c) ok s g = event-each (Ranked h) (λ e v x p. p) (λ d x p. p) (m .tables) c (g .priorities)
 priorities-kept m h (entry c) ok s g = entry-each (Ranked h) (λ x p. p) (m .tables) c (g .priorities)
 priorities-kept m h (timer (allocate b)) ok s g = g .priorities
 priorities-kept m h (timer (release b k)) ok s g = g .priorities

@@ -3,7 +3,7 @@
 use Prim.Native.Nat.{ℕ, suc, _≤_}
 use native.Mathlib.Omega.{arith}
 use mathlib.Core.Path.{_≡_, refl, sym, ap, subst, _∙_}
-use mathlib.Core.Bool.{Bool, true, false, _&&_}
+use mathlib.Core.Bool.{Bool, true, false, not, _&&_}
 use mathlib.Core.List.{List, _∷_, map}
 use lib.ListN.{length}
 use lib.IntN.{ℤ}
@@ -19,12 +19,12 @@ use Rattle.rules.specs.Holds.{Row, Bounds, Model, document}
 use Rattle.rules.specs.Events.{callControl, handlerAvailable, kindOf}
 use Rattle.rules.specs.Rows.{hasIdentifier}
 use Rattle.rules.specs.Timers.{ownerOf}
-use Rattle.rules.specs.Applets.{hasNumber, nobody, present}
+use Rattle.rules.specs.Applets.{hasNumber, nobody, present, applet}
 use Rattle.rules.specs.Applets as rules
 use Rattle.rules.specs.Envelopes.{envelopeOf, badEnvelope}
 use Rattle.rules.specs.Arrivals.{arrivalOf}
 use Rattle.rules.specs.Commands.{menuBytes, menuOf, shownMenu}
-use Rattle.rules.specs.Calls.{Call, event, askEvent, arrival, envelope, settled}
+use Rattle.rules.specs.Calls.{Call, event, askEvent, arrival, envelope, status, settled}
 use Rattle.rules.specs.Desk.{sameRow?}
 use Rattle.rules.specs.Refusals.{eventLines, lines, refusal}
 use Rattle.rules.specs.Step.{eventAnswer, answer, step}
@@ -37,7 +37,7 @@ use Rattle.runs.proofs.Filled.{is-here}
 use Rattle.runs.proofs.Looked.{number-from, number-to}
 use Rattle.history.specs.Histories.{did, History, accepted}
 use Rattle.history.specs.Deeds.{sets, clears, deletes}
-use Rattle.history.specs.Named.{isPresent, isSelectable, isRegistered, ownsTimer, hasOneShot, usesUp, ownsControl, oneToEight, timerOwner, controlOwner, rowsNamed, inSession, isOutstanding}
+use Rattle.history.specs.Named.{isPresent, isSelectable, isRegistered, pollOf, ownsTimer, hasOneShot, usesUp, ownsControl, oneToEight, timerOwner, controlOwner, rowsNamed, inSession, isOutstanding}
 use Rattle.history.specs.Called.{isChosen, isHelped, isNamed, isDue, Calls, arrivalIn}
 use Rattle.history.specs.Runs.{historyOf}
 use Rattle.history.proofs.Open.{reading}
@@ -46,7 +46,7 @@ use Rattle.history.proofs.Agrees.{accepted-more, accepted-same, ground,
 use Rattle.history.proofs.Owners.{within, timer-within}
 use Rattle.history.proofs.RowsNamed.{same-row}
 use Rattle.history.proofs.Calling.{calls as calls-hold, told, due-there, one-list-only}
-use Rattle.history.proofs.Answered.{passes, answers, refuses, calls-those, reads}
+use Rattle.history.proofs.Answered.{passes, answers, refuses, calls-those, reads, status-is-taken}
 use Rattle.history.proofs.Fits.{menu-fits}
 use Rattle.history.proofs.Eight.{the-one-is, counted-by-place, length-due}
 
@@ -198,11 +198,21 @@ module _ (title : List ℕ) (calls : List Call) where
     unfolding isDue isNamed arrivalOf badEnvelope
     help-needs-a-row-with-help i e = heard-is (ap badEnvelope e) ∙ rw e refl
 
-    -- .. and the end of a timer calls the owner that the history names.
+    -- .. the end of a timer calls the owner that the history names ..
     pub expiry-calls-the-owner : (k : ℕ) → envelopeOf bytes ≡ Expiry k
         → heard ≡ (if isSelectable n h && ownsTimer k n h then 1 else 0)
     unfolding isDue isNamed arrivalOf badEnvelope
     expiry-calls-the-owner k e = heard-is (ap badEnvelope e) ∙ rw e refl
+
+  -- .. and a STATUS calls those whose request, as the history names it, is not none.
+  pub status-calls-those-who-request : (n : ℕ)
+      → times n (step m (arrival status) .answer .called) ≡ (if isSelectable n h && not (pollOf n h == 0) then 1 else 0)
+  unfolding isDue isNamed arrivalIn
+  status-calls-those-who-request n = event-names-each-once-in-order (arrival status) (status-is-taken m) .once n
+
+  -- THE POLL INTERVAL that an applet requests is the one that it last requested since it was installed.
+  pub request-is-the-one-named : (n : ℕ) → applet (m .tables) n .poll ≡ pollOf n h
+  request-is-the-one-named n = agree .tables .poll n
 
   -- A ONE-SHOT fires exactly at an accepted settled moment that finds its applet selectable ..
   module _ (n : ℕ) (ok : step m settled .answer .refusal ≡ 0) where

@@ -1,4 +1,4 @@
--- Registrations: each event that is kept applet by applet, the one-shot among them, and call control.
+-- Registrations: each event that is kept applet by applet, the one-shot among them, and call control; and requests for polling.
 -- Assumes nothing.
 use Prim.Native.Nat.{ℕ, suc, _+_, _≤_, _<_}
 use native.Mathlib.Omega.{arith}
@@ -17,10 +17,10 @@ use Rattle.lists.proofs.Places.{getD-set, getD-blank}
 use Rattle.lists.proofs.Keyed.{first-less}
 use Rattle.rules.specs.declared.Kind.{Kind}
 use Rattle.rules.specs.declared.Kind.the-variants.{Event, Issuer, Reserved, Unsupported}
-use Rattle.rules.specs.Holds.{Applet, Tables, withApplets, withControl, withEvent, withSelectable}
+use Rattle.rules.specs.Holds.{Applet, Tables, withApplets, withControl, withEvent, withSelectable, withPoll}
 use Rattle.rules.specs.Events.{callControl, minus, supported, hasValue, named, kindOf, isControl}
-use Rattle.rules.specs.Applets.{hasNumber, nobody, present, applet, newcomer, forget, ownedByAnother, register, withRegistration}
-use Rattle.rules.specs.Calls.{admin, event, entry, timer, arrival, settled, proactive, systemCommand, install, delete, lock, unlock, setEvent, clearEvent, askEvent, newEntry, changeEntry, enableEntry, disableEntry, allocate, release}
+use Rattle.rules.specs.Applets.{hasNumber, nobody, present, applet, newcomer, forget, ownedByAnother, register, withRegistration, secondsOf}
+use Rattle.rules.specs.Calls.{admin, event, entry, timer, arrival, settled, proactive, systemCommand, install, delete, lock, unlock, setEvent, clearEvent, askEvent, requestPoll, newEntry, changeEntry, enableEntry, disableEntry, allocate, release}
 use Rattle.rules.specs.Refusals.{adminLines, eventLines, lines}
 use Rattle.rules.specs.Step.{adminTables, eventTables, entryTables, timerTables, tablesAfter}
 use Rattle.runs.specs.Sound.{SoundTables}
@@ -30,10 +30,10 @@ use Rattle.runs.proofs.Filled as filled
 use Rattle.runs.proofs.Looked.{sound-applet, absent-nobody}
 use Rattle.runs.proofs.Registered.{used-event}
 use Rattle.history.specs.Deeds.{isEvent}
-use Rattle.history.specs.Named.{usesUp, isRegistered}
+use Rattle.history.specs.Named.{usesUp, isRegistered, pollOf}
 use Rattle.history.proofs.Open.{reading}
 use Rattle.history.proofs.Agree.{numberOf, Kept}
-use Rattle.history.proofs.Applets.{with-more, with-changed, with-kept, with-used, entry-kept}
+use Rattle.history.proofs.Applets.{with-more, with-changed, with-kept, with-used, used-kept, registered-kept, entry-kept}
 use Rattle.history.proofs.Present.{or-none}
 
 -- a mark that the entry does not set stays
@@ -128,6 +128,9 @@ events-kept m h (event (clearEvent b v)) ok s g n e q =
     ∙ ap (λ (x : Bool). if b == n && isEvent e (kindOf v) then false else x) (g .events n e q)
     ∙ sym (or-none (b == n && isEvent e (kindOf v)) false (isRegistered n e h))
 events-kept m h (event (askEvent b v)) ok s g n e q = g .events n e q
+events-kept m h (event (requestPoll b d)) ok s g n e q =
+    with-kept (m .tables .applets) (withPoll (secondsOf d)) (λ x. refl) (λ (x : Applet). getD (x .events) e false) (λ x. refl) b n (is-here (m .tables) b (none-holds m (event (requestPoll b d)) ok .0))
+    ∙ g .events n e q
 events-kept m h (entry c) ok s g n e q =
     entry-kept (λ (x : Applet). getD (x .events) e false) (λ x. refl) m n c ok
     ∙ g .events n e q
@@ -209,6 +212,7 @@ control-kept m h (event (clearEvent b v)) ok s g n k =
     ∙ ap (λ (x : Bool). if b == n && isEvent callControl (kindOf v) then false else x) (g .control n k)
     ∙ sym (or-none (b == n && isEvent callControl (kindOf v)) false (isRegistered n callControl h))
 control-kept m h (event (askEvent b v)) ok s g n k = g .control n k
+control-kept m h (event (requestPoll b d)) ok s g n k = g .control n k
 control-kept m h (entry (newEntry b help text)) ok s g n k = g .control n k
 control-kept m h (entry (changeEntry b i help text)) ok s g n k = g .control n k
 control-kept m h (entry (enableEntry b i)) ok s g n k = g .control n k
@@ -219,3 +223,43 @@ control-kept m h (arrival c) ok s g n k = g .control n k
 control-kept m h settled ok s g n k = g .control n k
 control-kept m h (proactive c) ok s g n k = g .control n k
 control-kept m h (systemCommand buffer) ok s g n k = g .control n k
+
+-- Requests: an install and a delete leave none, and a request of an applet is its own.
+pub poll-kept : Kept (λ t h. (n : ℕ) → applet t n .poll ≡ pollOf n h)
+unfolding tablesAfter adminTables eventTables timerTables applet present newcomer adminLines eventLines lines Every pollOf reading
+poll-kept m h (admin (install b r)) ok s g n =
+    ap (λ (x : Applet). x .poll) (with-more (m .tables) b r n (filled.installs m b r ok .new))
+    ∙ if-map (λ (x : Applet). x .poll) (b == n) (newcomer b r) (applet (m .tables) n)
+    ∙ ap (λ (x : ℕ). if b == n then 0 else x) (g .poll n)
+    ∙ sym (or-none (b == n) 0 (pollOf n h))
+poll-kept m h (admin (delete b)) ok s g n =
+    ap (λ (x : Applet). x .poll) (first-less numberOf nobody n b (m .tables .applets))
+    ∙ if-map (λ (x : Applet). x .poll) (b == n) nobody (applet (m .tables) n)
+    ∙ ap (λ (x : ℕ). if b == n then 0 else x) (g .poll n)
+poll-kept m h (admin (lock b)) ok s g n =
+    with-kept (m .tables .applets) (withSelectable false) (λ x. refl) (λ x. x .poll) (λ x. refl) b n (is-here (m .tables) b (none-holds m (admin (lock b)) ok .0))
+    ∙ g .poll n
+poll-kept m h (admin (unlock b)) ok s g n =
+    with-kept (m .tables .applets) (withSelectable true) (λ x. refl) (λ x. x .poll) (λ x. refl) b n (is-here (m .tables) b (none-holds m (admin (unlock b)) ok .0))
+    ∙ g .poll n
+poll-kept m h (event (setEvent b v)) ok s g n =
+    registered-kept (λ x. x .poll) (λ e w x. refl) (m .tables) b n (kindOf v) true (is-here (m .tables) b (none-holds m (event (setEvent b v)) ok .0))
+    ∙ g .poll n
+poll-kept m h (event (clearEvent b v)) ok s g n =
+    registered-kept (λ x. x .poll) (λ e w x. refl) (m .tables) b n (kindOf v) false (is-here (m .tables) b (none-holds m (event (clearEvent b v)) ok .0))
+    ∙ g .poll n
+poll-kept m h (event (askEvent b v)) ok s g n = g .poll n
+poll-kept m h (event (requestPoll b d)) ok s g n =
+    ap (λ (x : Applet). x .poll) (with-changed (m .tables .applets) (withPoll (secondsOf d)) (λ x. refl) b n (is-here (m .tables) b (none-holds m (event (requestPoll b d)) ok .0)))
+    ∙ if-map (λ (x : Applet). x .poll) (b == n) _ (applet (m .tables) n)
+    ∙ ap (λ (x : ℕ). if b == n then secondsOf d else x) (g .poll n)
+poll-kept m h (entry c) ok s g n = entry-kept (λ x. x .poll) (λ x. refl) m n c ok ∙ g .poll n
+poll-kept m h (timer (allocate b)) ok s g n = g .poll n
+poll-kept m h (timer (release b k)) ok s g n = g .poll n
+poll-kept m h (arrival c) ok s g n = g .poll n
+poll-kept m h settled ok s g n =
+    ap (λ (x : Applet). x .poll) (with-used (m .tables .applets) n)
+    ∙ used-kept (λ x. x .poll) (λ b x. refl) (applet (m .tables) n)
+    ∙ g .poll n
+poll-kept m h (proactive c) ok s g n = g .poll n
+poll-kept m h (systemCommand buffer) ok s g n = g .poll n

@@ -1,17 +1,20 @@
 -- THE SCREEN IS RIGHT after any sequence of calls on a fresh card, refused ones included. What the terminal was handed is looked back
 -- from the calls, their answers and what they left in the lent buffers. Assumes nothing.
 use Prim.Native.Nat.{ℕ, _≤_}
-use mathlib.Core.Path.{_≡_, refl, sym, ap, _∙_}
-use mathlib.Core.Bool.{Bool, true, false}
+use native.Mathlib.Omega.{arith}
+use mathlib.Core.Path.{_≡_, refl, sym, ap, subst, _∙_}
+use mathlib.Core.Bool.{Bool, true, false, _&&_}
 use mathlib.Core.List.{List, [], map}
 use lib.ListN.{length}
+use borrow.Author.Tests.{eqb-true, eqb-false}
 use Rattle.lists.specs.Tests.{if_then_else_}
 use Rattle.lists.specs.Lists.{count, keep}
 use Rattle.lists.proofs.Counts.{count-map}
 use Rattle.lists.proofs.Times.{some-alike}
+use Rattle.lists.proofs.Truth.{and-true}
 use Rattle.rules.specs.Holds.{Row, Model, document}
-use Rattle.rules.specs.Commands.{Menu, shownMenu, shownEvents, menuOf, menuBytes, eventBytes, isMenu}
-use Rattle.rules.specs.Desk.{Matter, menu, eventList, commandFor}
+use Rattle.rules.specs.Commands.{Menu, shownMenu, shownEvents, interval, menuOf, menuBytes, eventBytes, intervalBytes, isMenu}
+use Rattle.rules.specs.Desk.{Matter, menu, eventList, pollInterval, pollingOff, commandFor}
 use Rattle.rules.specs.Calls.{Call, Answer, proactive, systemCommand, send}
 use Rattle.rules.specs.Refusals.{refusal}
 use Rattle.rules.specs.Step.{step}
@@ -20,16 +23,18 @@ use Rattle.rules.specs.Runs.{cardAfter}
 use Rattle.rules.proofs.DueMarks.{first-due}
 use Rattle.history.specs.Histories.{History}
 use Rattle.history.specs.Named.{rowsNamed, inSession, isOutstanding}
-use Rattle.history.specs.Handed.{titleOf, Seen, seenOf, handedSince, lastMenu, screen, codesIn, isEventList, codesHanded, isShown, codesNamed}
+use Rattle.history.specs.Handed.{titleOf, Seen, seenOf, handedSince, lastMenu, screen, codesIn, isEventList, codesHanded, isPolling, lastPolling, isShown, codesNamed, intervalNamed, pollingNamed}
 use Rattle.history.specs.OnScreen.{itemOf, wanted, command, MenuRight, HandsOut, ScreenRight}
 use Rattle.history.proofs.Agrees.{plain, ground}
 use Rattle.history.proofs.Answered.{passes, answers}
 use Rattle.history.proofs.Promises.{past, agree, sound, from-1-to-8, session-is-named, outstanding-is-named}
 use Rattle.history.proofs.Stands.{shown-read}
-use Rattle.history.proofs.Handing.{codes-back, right}
-use Rattle.history.proofs.Shown.{rows-shown, rows-wanted, codes-shown}
+use Rattle.history.proofs.Types.{codes-back}
+use Rattle.history.proofs.Polling.{PollingRight, pollingFor, never-both}
+use Rattle.history.proofs.Handing.{right}
+use Rattle.history.proofs.Shown.{rows-shown, rows-wanted, codes-shown, interval-shown}
 use Rattle.history.proofs.HandOuts.{taken, handed-due, nothing-due, due-left, mended}
-use Rattle.history.proofs.Sent.{sends-no-menu, sends-no-list}
+use Rattle.history.proofs.Sent.{sends-no-menu, sends-no-list, sends-no-polling}
 
 module _ (title : List ℕ) (calls : List Call) where
   -- the card that the calls have left, their history, and the calls as they were seen
@@ -61,6 +66,9 @@ module _ (title : List ℕ) (calls : List Call) where
   card-codes : shownEvents (m .tables) ≡ codesNamed h
   card-codes = codes-shown (m .tables) h (sound title calls) (agree title calls .tables) (from-1-to-8 title calls)
 
+  card-interval : interval (m .tables) ≡ intervalNamed h
+  card-interval = interval-shown (m .tables) h (sound title calls) (agree title calls .tables) (from-1-to-8 title calls)
+
   menu-right : inSession h ≡ true → m .desk .due .menu ≡ false → MenuRight title l m h
   unfolding screen menuOf
   menu-right begun current =
@@ -88,16 +96,39 @@ module _ (title : List ℕ) (calls : List Call) where
   codes-right begun current =
       ap codesIn (right title calls .events (session-is-named title calls ∙ begun) current) ∙ codes-back (shownEvents (m .tables)) ∙ card-codes
 
+  -- what is known of polling, of the interval that the history names
+  polling-kept : PollingRight (intervalNamed h) (m .desk .session) (m .desk .due .interval) (m .desk .due .off) (handedSince l)
+  polling-kept = subst (λ (n : ℕ). PollingRight n (m .desk .session) (m .desk .due .interval) (m .desk .due .off) (handedSince l)) card-interval (right title calls .polling)
+
+  polling-right : inSession h ≡ true → m .desk .due .interval ≡ false → m .desk .due .off ≡ false → lastPolling (handedSince l) ≡ pollingNamed h
+  unfolding pollingFor pollingNamed
+  polling-right begun p q = polling-kept .last (session-is-named title calls ∙ begun) p q
+
+  -- POLL INTERVAL AND POLLING OFF are never both due.
+  pub interval-and-off-never-both-due : (m .desk .due .interval && m .desk .due .off) ≡ false
+  interval-and-off-never-both-due = never-both _ _ _ _ _ polling-kept
+
+  interval-due : m .desk .due .interval ≡ true → 1 ≤ intervalNamed h
+  interval-due e = some (eqb-false (intervalNamed h) 0 (polling-kept .interval-due e .1))
+    where
+      some : {n : ℕ} → (n ≡ 0 → ⊥) → 1 ≤ n
+      some f = omega arith
+
+  off-due : m .desk .due .off ≡ true → intervalNamed h ≡ 0
+  off-due e = eqb-true (intervalNamed h) 0 (polling-kept .off-due e .1)
+
   sends-neither : (n : ℕ) (bytes : List ℕ) → step m (proactive (send n bytes)) .answer .refusal ≡ 0
-      → (isMenu document bytes ≡ false) × (isEventList bytes ≡ false)
+      → (isMenu document bytes ≡ false) × (isEventList bytes ≡ false) × (isPolling bytes ≡ false)
   sends-neither n bytes ok =
       let q : refusal m (proactive (send n bytes)) ≡ 0 = passes m (proactive (send n bytes)) ok in
-      (sends-no-menu m n bytes q, sends-no-list m n bytes q)
+      (sends-no-menu m n bytes q, sends-no-list m n bytes q, sends-no-polling m n bytes q)
 
   card-wants : (x : Matter) → commandFor (m .tables) (m .desk .title) x ≡ wanted title (m .tables .rows) h x
   unfolding commandFor wanted
   card-wants menu = ap menuBytes card-shows
   card-wants eventList = ap eventBytes card-codes
+  card-wants pollInterval = ap intervalBytes card-interval
+  card-wants pollingOff = refl
 
   hands-out : (buffer : List ℕ) → step m (systemCommand buffer) .answer .refusal ≡ 0 → HandsOut title m h buffer
   unfolding commandFor
@@ -105,12 +136,20 @@ module _ (title : List ℕ) (calls : List Call) where
       record {
         menu-first = λ e. the-due ∙ rw e (card-wants menu);
         then-events = λ e f. the-due ∙ rw (e, f) (card-wants eventList);
-        else-nothing = λ e f. (the-due ∙ rw (e, f) refl, nothing-due m buffer (passes m (systemCommand buffer) ok) e f);
-        clears = due-left m buffer (passes m (systemCommand buffer) ok);
+        then-interval = λ e f p. the-due ∙ rw (e, f, p) (card-wants pollInterval);
+        then-off = λ e f p. the-due ∙ rw (e, f, not-interval p, p) (card-wants pollingOff);
+        else-nothing = λ e. (the-due ∙ rw e refl, nothing-due m buffer (passes m (systemCommand buffer) ok) e);
+        clears = due-left m buffer (passes m (systemCommand buffer) ok) interval-and-off-never-both-due;
       }
     where
-      the-due : command m buffer ≡ (if m .desk .due .menu then commandFor (m .tables) (m .desk .title) menu else if m .desk .due .events then commandFor (m .tables) (m .desk .title) eventList else [])
-      the-due = handed-due m buffer (passes m (systemCommand buffer) ok) ∙ first-due (m .tables) (m .desk)
+      for : Matter → List ℕ
+      for = commandFor (m .tables) (m .desk .title)
+
+      the-due : command m buffer ≡ (if m .desk .due .menu then for menu else if m .desk .due .events then for eventList else if m .desk .due .interval then for pollInterval else if m .desk .due .off then for pollingOff else [])
+      the-due = handed-due m buffer (passes m (systemCommand buffer) ok) ∙ first-due (m .desk) (m .tables)
+
+      not-interval : m .desk .due .off ≡ true → m .desk .due .interval ≡ false
+      not-interval p = sym (and-true (m .desk .due .interval)) ∙ ap (λ (b : Bool). m .desk .due .interval && b) (sym p) ∙ interval-and-off-never-both-due
 
   accepts : (buffer : List ℕ) → isOutstanding h ≡ false → 256 ≤ length buffer → step m (systemCommand buffer) .answer .refusal ≡ 0
   accepts buffer idle room =
@@ -123,9 +162,13 @@ module _ (title : List ℕ) (calls : List Call) where
       record {
         menu = menu-right;
         codes = codes-right;
+        polling = polling-right;
+        never-both = interval-and-off-never-both-due;
+        interval-due = interval-due;
+        off-due = off-due;
         sent = sends-neither;
         read-back = sym (ap (λ (x : Menu). menuReader document (menuBytes x)) card-shows) ∙ card-reads;
         hand-out = hands-out;
         accepts = accepts;
-        mends = λ buffers idle room few. mended m buffers (outstanding-is-named title calls ∙ idle) room few;
+        mends = λ buffers idle room few. mended m buffers interval-and-off-never-both-due (outstanding-is-named title calls ∙ idle) room few;
       }

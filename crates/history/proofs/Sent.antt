@@ -1,8 +1,9 @@
--- A send of a menu command, or of an event list, is refused: by its type, if its bytes are not refused before.
+-- A send of a menu command, an event list or a command for polling is refused: by its type, if its bytes are not refused before.
 -- Assumes nothing.
 use Prim.Native.Nat.{ℕ, suc, _+_}
 use native.Mathlib.Omega.{arith}
 use mathlib.Core.Path.{_≡_, refl, sym, ap, _∙_}
+use mathlib.Core.Logic.{_⊎_, inl, inr}
 use mathlib.Core.Bool.{Bool, true, false, _||_}
 use mathlib.Core.List.{List, [], _∷_, _++_}
 use lib.ListN.{length, drop}
@@ -10,7 +11,7 @@ use lib.Dec.{eqb·suc-zero}
 use borrow.Author.Tests.{le-leb, lt-leb}
 use Rattle.lists.specs.Tests.{if_then_else_, _==_, _<?_, _≤?_}
 use Rattle.lists.specs.Lists.{Every, some?, keep, in?}
-use Rattle.lists.proofs.Decided.{clashing}
+use Rattle.lists.proofs.Decided.{clashing, refuted}
 use Rattle.rules.specs.declared.Command.{Command}
 use Rattle.rules.specs.declared.Command.the-variants as command
 use Rattle.rules.specs.declared.Len.the-variants.{Known}
@@ -24,12 +25,12 @@ use Rattle.rules.specs.declared.Outer.the-variants as outer
 use Rattle.rules.specs.Holds.{Model, document}
 use Rattle.rules.specs.Bytes.{byte, tagSize, tagNumber, longLength, lengthAt, valued, elementBy, elementAt, runOn, runBy, runAt, isRun, firstValue, occurring, found, rest, outerBy, outerOf}
 use Rattle.rules.specs.Envelopes.{withByte, typeIn, ofType, commandBy, withOuter, commandOf, badCommand, systemType}
-use Rattle.rules.specs.Commands.{Menu, lengthBytes, commandBytes, detailBytes, menuValue, menuBytes, eventBytes, readMenu, isMenu}
+use Rattle.rules.specs.Commands.{lengthBytes, commandBytes, detailBytes, isMenu}
 use Rattle.rules.specs.Calls.{proactive, send}
 use Rattle.rules.specs.Refusals.{proactiveLines, lines, refusal}
-use Rattle.rules.proofs.Reader.{same-true, only-written}
 use Rattle.runs.proofs.Accepted.{accepted}
-use Rattle.history.specs.Handed.{codesIn, isEventList}
+use Rattle.history.specs.Handed.{isEventList, isPolling}
+use Rattle.history.proofs.Types.{Typed, is-menu, is-list, is-polling}
 
 -- refused for what it says
 abbrev barred : Command → Bool
@@ -86,16 +87,12 @@ typed n type q l =
     let v : List ℕ = 0x81 ∷ 0x03 ∷ n ∷ type ∷ q ∷ l in
     ap (λ (e : Element). typeIn v (occurring 0x01 1 (runOn e (λ next. runBy (length v) v next) .elements))) (details n type q l)
 
-menu-barred : (m : Menu) → barred (commandOf (menuBytes m)) ≡ true
-unfolding menuBytes menuValue detailBytes withByte ofType commandBy badCommand systemType in? some?
-menu-barred m =
-    said (menuValue m) (ap (λ (b : Byte). barred (withByte b (ofType (menuValue m)) command.Malformed)) (typed 0x01 0x25 (if m .help then 0x80 else 0x00) (drop 5 (menuValue m))))
-
-list-barred : (l : List ℕ) → barred (commandOf (eventBytes l)) ≡ true
-unfolding eventBytes detailBytes withByte ofType commandBy badCommand systemType in? some?
-list-barred l =
-    let v : List ℕ = detailBytes 0x05 0x00 ++ 0x99 ∷ length l ∷ l in
-    said v (ap (λ (b : Byte). barred (withByte b (ofType v) command.Malformed)) (typed 0x01 0x05 0x00 (drop 5 v)))
+barred-by-type : (type : ℕ) → ((v : List ℕ) → barred (ofType v type) ≡ true) → (s : List ℕ) → Typed type s → barred (commandOf s) ≡ true
+unfolding detailBytes withByte commandBy
+barred-by-type type k s x =
+    let v : List ℕ = detailBytes type (x .qualifier) ++ x .rest in
+    ap (λ (z : List ℕ). barred (commandOf z)) (sym (x .written))
+    ∙ said v (ap (λ (b : Byte). barred (withByte b (ofType v) command.Malformed)) (typed 0x01 type (x .qualifier) (drop 5 v)) ∙ k v)
 
 module _ (m : Model) (n : ℕ) (bytes : List ℕ) (ok : refusal m (proactive (send n bytes)) ≡ 0) where
   not-barred : barred (commandOf bytes) ≡ false
@@ -104,17 +101,21 @@ module _ (m : Model) (n : ℕ) (bytes : List ℕ) (ok : refusal m (proactive (se
       let h = accepted m (proactive (send n bytes)) ok in
       ap (λ (b : Bool). b || systemType (commandOf bytes)) (h .0) ∙ h .1 .1 .1 .1 .0
 
+  not-typed : (type : ℕ) → ((v : List ℕ) → barred (ofType v type) ≡ true) → Typed type bytes → ⊥
+  not-typed type k x = clashing (barred-by-type type k bytes x) not-barred
+
   pub sends-no-menu : isMenu document bytes ≡ false
-  sends-no-menu = go (isMenu document bytes) refl
-    where
-      go : (b : Bool) → isMenu document bytes ≡ b → b ≡ false
-      go true e = clashing (ap (λ (s : List ℕ). barred (commandOf s)) (sym (only-written document bytes e .written)) ∙ menu-barred (readMenu document bytes)) not-barred
-      go false e = refl
+  unfolding ofType badCommand systemType in? some?
+  sends-no-menu = refuted (isMenu document bytes) (λ e. not-typed 0x25 (λ v. refl) (is-menu bytes e))
 
   pub sends-no-list : isEventList bytes ≡ false
-  unfolding isEventList
-  sends-no-list = go (isEventList bytes) refl
+  unfolding ofType badCommand systemType in? some?
+  sends-no-list = refuted (isEventList bytes) (λ e. not-typed 0x05 (λ v. refl) (is-list bytes e))
+
+  pub sends-no-polling : isPolling bytes ≡ false
+  unfolding ofType badCommand systemType in? some?
+  sends-no-polling = refuted (isPolling bytes) (λ e. go (is-polling bytes e))
     where
-      go : (b : Bool) → isEventList bytes ≡ b → b ≡ false
-      go true e = clashing (ap (λ (s : List ℕ). barred (commandOf s)) (sym (same-true (eventBytes (codesIn bytes)) bytes e)) ∙ list-barred (codesIn bytes)) not-barred
-      go false e = refl
+      go : Typed 0x04 bytes ⊎ Typed 0x03 bytes → ⊥
+      go (inl x) = not-typed 0x04 (λ v. refl) x
+      go (inr x) = not-typed 0x03 (λ v. refl) x

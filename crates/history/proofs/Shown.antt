@@ -1,31 +1,34 @@
--- What the card shows is what its history wants shown: the rows, and the codes.
+-- What the card shows is what its history wants shown: the rows, the codes, and the system interval.
 -- Assumes nothing.
 use Prim.Native.Nat.{ℕ, suc, _≤_}
 use native.Mathlib.Omega.{arith}
 use mathlib.Core.Path.{_≡_, refl, sym, ap, _∙_}
 use mathlib.Core.Bool.{Bool, true, false, _&&_}
-use mathlib.Core.List.{List, [], _∷_}
-use Rattle.lists.specs.Lists.{some?, count, keep}
+use mathlib.Core.List.{List, [], _∷_, map, map-congr-left}
+use Rattle.lists.specs.Lists.{Every, some?, count, keep, in?, smallest}
 use Rattle.lists.proofs.Alike.{keep-alike}
 use Rattle.lists.proofs.Counts.{count-is, count-keep, count-missed, count-some}
+use Rattle.lists.proofs.Every.{every-so}
 use Rattle.lists.proofs.Mapped.{map-length}
+use Rattle.lists.proofs.Owned.{every-there}
+use Rattle.lists.proofs.Smallest.{smallest-by-key}
 use Rattle.lists.proofs.Times.{count-all}
 use Rattle.lists.proofs.Walk.{some-first}
 use Rattle.rules.specs.declared.Envelope.the-variants.{Download}
 use Rattle.rules.specs.Holds.{Applet, Row, Tables}
 use Rattle.rules.specs.Events.{codes, firstDownload, kindOfCode, named}
-use Rattle.rules.specs.Applets.{hasNumber, nobody, present, applet, registered, inOrder}
-use Rattle.rules.specs.Arrivals.{event, arrivalOf, download, wants, called}
-use Rattle.rules.specs.Commands.{selectable, shownMenu, listened, shownFrom, shownEvents}
+use Rattle.rules.specs.Applets.{hasNumber, nobody, present, applet, registered, polls, inOrder}
+use Rattle.rules.specs.Arrivals.{event, status, arrivalOf, download, wants, called}
+use Rattle.rules.specs.Commands.{selectable, shownMenu, listened, shownFrom, shownEvents, interval}
 use Rattle.rules.proofs.Listed.{count-inOrder}
 use Rattle.runs.specs.Sound.{SoundTables}
 use Rattle.history.specs.Histories.{History}
-use Rattle.history.specs.Named.{isSelectable, oneToEight, rowsNamed}
-use Rattle.history.specs.Called.{isDue}
-use Rattle.history.specs.Handed.{isShown, codesNamed}
+use Rattle.history.specs.Named.{isSelectable, pollOf, oneToEight, rowsNamed}
+use Rattle.history.specs.Called.{isNamed, isDue}
+use Rattle.history.specs.Handed.{isShown, codesNamed, intervalNamed}
 use Rattle.history.proofs.Agree.{numberOf, AgreeTables}
 use Rattle.history.proofs.Calling.{calls, due-there}
-use Rattle.history.proofs.Eight.{length-due}
+use Rattle.history.proofs.Eight.{among-eight, length-due}
 
 -- where as many pass, one passes or none does
 some-counted : {A B : Type 0} (p : A → Bool) (l : List A) (q : B → Bool) (k : List B) → count p l ≡ count q k → some? p l ≡ some? q k
@@ -82,3 +85,20 @@ module _ (t : Tables) (h : History) (s : SoundTables t) (g : AgreeTables t h) (f
   pub codes-shown : shownEvents t ≡ codesNamed h
   unfolding shownEvents codesNamed
   codes-shown = from-named firstDownload codes placed
+
+  -- The system interval.
+  found-among : Every (λ (x : Applet). in? (x .number) oneToEight ≡ true) (t .applets)
+  unfolding present
+  found-among =
+      every-so (λ (x : Applet). some? (hasNumber (x .number)) (t .applets) ≡ true) _
+      (λ x q. among-eight (x .number) (few (x .number) q .0) (few (x .number) q .1)) (t .applets) (every-there numberOf (t .applets))
+
+  abbrev Polled : ℕ → Bool
+  Polled n = applet t n .selectable && polls (applet t n)
+
+  pub interval-shown : interval t ≡ intervalNamed h
+  unfolding interval intervalNamed isDue isNamed applet
+  interval-shown =
+      smallest-by-key numberOf nobody (t .applets) (s .numbers-apart) oneToEight found-among (λ (x : Applet). x .selectable && polls x) (λ (x : Applet). x .poll) refl
+      ∙ ap smallest (map-congr-left {l = keep Polled oneToEight} (λ n q. g .poll n)
+      ∙ ap (map (λ n. pollOf n h)) (keep-alike Polled (isDue h status) oneToEight (λ n. rw (g .selectability n, g .poll n) refl)))

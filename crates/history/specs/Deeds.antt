@@ -6,10 +6,11 @@ use Rattle.lists.specs.Tests.{_==_}
 use Rattle.rules.specs.declared.Kind.{Kind}
 use Rattle.rules.specs.declared.Kind.the-variants.{Event, Issuer, Reserved, Unsupported}
 use Rattle.rules.specs.Events.{kindOf}
+use Rattle.rules.specs.Applets.{secondsOf}
 use Rattle.rules.specs.Calls.{Call, admin, event, entry, timer, arrival, settled, proactive, systemCommand}
-use Rattle.rules.specs.Calls.{AdminCall, install, delete, lock, unlock, EventCall, setEvent, clearEvent, askEvent}
+use Rattle.rules.specs.Calls.{AdminCall, install, delete, lock, unlock, EventCall, setEvent, clearEvent, askEvent, requestPoll}
 use Rattle.rules.specs.Calls.{EntryCall, newEntry, changeEntry, enableEntry, disableEntry, TimerCall, allocate, release}
-use Rattle.rules.specs.Calls.{envelope, profile, send, response}
+use Rattle.rules.specs.Calls.{envelope, profile, status, send, response}
 use Rattle.history.specs.Histories.{Entry}
 
 -- What is read of a call of one group; the same for every call of another.
@@ -112,17 +113,38 @@ unfoldable pub isSet : (applet event : ℕ) → EventCall → Bool
 isSet n e (setEvent m v) = m == n && isEvent e (kindOf v)
 isSet n e (clearEvent m v) = false
 isSet n e (askEvent m v) = false
+isSet n e (requestPoll m d) = false
 
 unfoldable pub isClear : (applet event : ℕ) → EventCall → Bool
 isClear n e (setEvent m v) = false
 isClear n e (clearEvent m v) = m == n && isEvent e (kindOf v)
 isClear n e (askEvent m v) = false
+isClear n e (requestPoll m d) = false
 
 unfoldable pub sets : (applet event : ℕ) → Entry → Bool
 sets n e x = ofEvent false (isSet n e) (x .call)
 
 unfoldable pub clears : (applet event : ℕ) → Entry → Bool
 clears n e x = ofEvent false (isClear n e) (x .call)
+
+-- Poll intervals: applet n requests one, and the seconds that it requests.
+unfoldable pub isRequest : (applet : ℕ) → EventCall → Bool
+isRequest n (setEvent m v) = false
+isRequest n (clearEvent m v) = false
+isRequest n (askEvent m v) = false
+isRequest n (requestPoll m d) = m == n
+
+unfoldable pub secondsRequested : EventCall → ℕ
+secondsRequested (setEvent m v) = 0
+secondsRequested (clearEvent m v) = 0
+secondsRequested (askEvent m v) = 0
+secondsRequested (requestPoll m d) = secondsOf d
+
+unfoldable pub requests : (applet : ℕ) → Entry → Bool
+requests n e = ofEvent false (isRequest n) (e .call)
+
+unfoldable pub secondsIn : Entry → ℕ
+secondsIn e = ofEvent 0 secondsRequested (e .call)
 
 -- Timers: an allocation gave timer k to applet n; timer k is released.
 unfoldable pub isGiven : (timer applet given : ℕ) → TimerCall → Bool
@@ -222,6 +244,7 @@ isProfile (entry c) = false
 isProfile (timer c) = false
 isProfile (arrival (envelope bytes)) = false
 isProfile (arrival (profile bytes)) = true
+isProfile (arrival status) = false
 isProfile settled = false
 isProfile (proactive c) = false
 isProfile (systemCommand buffer) = false

@@ -1,23 +1,24 @@
 -- What the terminal was handed, by looking back over the calls, their answers and what they left in the lent buffers; and what the
 -- history wants there.
 use Prim.Native.Nat.{ℕ}
-use mathlib.Core.Bool.{Bool, _&&_}
-use mathlib.Core.List.{List, [], _∷_}
+use mathlib.Core.Bool.{Bool, _&&_, _||_}
+use mathlib.Core.List.{List, [], _∷_, _++_, map}
 use lib.ListN.{take, drop}
 use Rattle.lists.specs.Tests.{if_then_else_, _==_}
-use Rattle.lists.specs.Lists.{some?, keep, first, same?}
+use Rattle.lists.specs.Lists.{some?, keep, first, same?, smallest}
 use Rattle.rules.specs.declared.Envelope.the-variants.{Download}
 use Rattle.rules.specs.Holds.{Row, document}
 use Rattle.rules.specs.Events.{codes}
-use Rattle.rules.specs.Arrivals.{arrivalOf}
-use Rattle.rules.specs.Commands.{Menu, menuOf, menuBytes, eventBytes, valueOf, isMenu}
+use Rattle.rules.specs.Bytes.{byte}
+use Rattle.rules.specs.Arrivals.{status, arrivalOf}
+use Rattle.rules.specs.Commands.{Menu, menuOf, menuBytes, eventBytes, commandBytes, detailBytes, intervalBytes, offBytes, valueOf, isMenu}
 use Rattle.rules.specs.Calls.{Call, Outcome}
 use Rattle.rules.specs.Step.{step}
 use Rattle.rules.specs.Beside.{freshCard, menuReader}
 use Rattle.rules.specs.Runs.{cardAfter}
 use Rattle.history.specs.Histories.{Entry, did, History}
 use Rattle.history.specs.Deeds.{profiles}
-use Rattle.history.specs.Named.{isSelectable, oneToEight}
+use Rattle.history.specs.Named.{isSelectable, pollOf, oneToEight}
 use Rattle.history.specs.Called.{isDue}
 
 -- The title that a fresh card takes: the one asked for, or the empty one where that is too long.
@@ -71,6 +72,14 @@ lastList l = first isEventList (eventBytes []) l
 unfoldable pub codesHanded : List Seen → List ℕ
 codesHanded l = codesIn (lastList (handedSince l))
 
+-- POLLING OFF, or POLL INTERVAL with any unit and count.
+unfoldable pub isPolling : List ℕ → Bool
+isPolling s = same? offBytes s || same? (commandBytes (detailBytes 0x03 0x00 ++ 0x84 ∷ 0x02 ∷ byte s 13 ∷ byte s 14 ∷ [])) s
+
+-- The last of the commands that is one of these; POLLING OFF where there is none.
+unfoldable pub lastPolling : (commands : List (List ℕ)) → List ℕ
+lastPolling l = first isPolling offBytes l
+
 -- What the history wants on the screen: an enabled row of a selectable applet.
 unfoldable pub isShown : History → Row → Bool
 isShown h r = r .enabled && isSelectable (r .owner) h
@@ -78,3 +87,11 @@ isShown h r = r .enabled && isSelectable (r .owner) h
 -- The codes that it wants: those whose download is to call some applet, a selectable one that is registered for it.
 unfoldable pub codesNamed : History → List ℕ
 codesNamed h = keep (λ code. some? (isDue h (arrivalOf (Download code))) oneToEight) codes
+
+-- The system interval that it names, in seconds: the smallest request of those whom a STATUS is to call; 0 where there is none.
+unfoldable pub intervalNamed : History → ℕ
+intervalNamed h = smallest (map (λ n. pollOf n h) (keep (isDue h status) oneToEight))
+
+-- The command for polling that it wants: that interval, or POLLING OFF where there is none.
+unfoldable pub pollingNamed : History → List ℕ
+pollingNamed h = if intervalNamed h == 0 then offBytes else intervalBytes (intervalNamed h)

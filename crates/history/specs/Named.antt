@@ -7,9 +7,9 @@ use Rattle.lists.specs.Tests.{if_then_else_, _==_}
 use Rattle.lists.specs.Lists.{some?, first, padded}
 use Rattle.rules.specs.Holds.{Row}
 use Rattle.rules.specs.Events.{callControl, handlerAvailable}
-use Rattle.rules.specs.Calls.{Call, admin, event, entry, timer, arrival, envelope, profile, settled, proactive, systemCommand}
+use Rattle.rules.specs.Calls.{Call, admin, event, entry, timer, arrival, envelope, profile, status, settled, proactive, systemCommand}
 use Rattle.history.specs.Histories.{Entry, History, stands}
-use Rattle.history.specs.Deeds.{installs, deletes, locks, unlocks, priorityIn, sets, clears, gives, releases, makes, changes, enables, disables, appletIn, textIn, helpIn, settles, profiles, commands, responds}
+use Rattle.history.specs.Deeds.{installs, deletes, locks, unlocks, priorityIn, sets, clears, requests, secondsIn, gives, releases, makes, changes, enables, disables, appletIn, textIn, helpIn, settles, profiles, commands, responds}
 
 -- Applet n was installed, and not deleted since.
 unfoldable pub isPresent : (applet : ℕ) → History → Bool
@@ -52,6 +52,11 @@ hasOneShot n h = isRegistered n handlerAvailable h
 -- Call control is owned by the applet that is registered for it.
 unfoldable pub ownsControl : (applet : ℕ) → History → Bool
 ownsControl n h = isRegistered n callControl h
+
+-- The poll interval that applet n last requested since it was installed, in seconds; 0 is none.
+unfoldable pub pollOf : (applet : ℕ) → History → ℕ
+pollOf n [] = 0
+pollOf n (e ∷ h) = if installs n e || deletes n e then 0 else if requests n e then secondsIn e else pollOf n h
 
 -- the numbers of applets, and of timers
 unfoldable pub oneToEight : List ℕ
@@ -107,6 +112,7 @@ profileBytes (entry c) = []
 profileBytes (timer c) = []
 profileBytes (arrival (envelope bytes)) = []
 profileBytes (arrival (profile bytes)) = bytes
+profileBytes (arrival status) = []
 profileBytes settled = []
 profileBytes (proactive c) = []
 profileBytes (systemCommand buffer) = []

@@ -1,14 +1,14 @@
 -- THE SCREEN IS RIGHT: what is promised of calls as they were seen, the card that they have left, and its history.
 use Prim.Native.Nat.{ℕ, _≤_}
 use mathlib.Core.Path.{_≡_}
-use mathlib.Core.Bool.{Bool, true, false}
+use mathlib.Core.Bool.{Bool, true, false, _&&_}
 use mathlib.Core.List.{List, [], _∷_, map}
 use lib.ListN.{length}
 use Rattle.lists.specs.Tests.{if_then_else_}
 use Rattle.lists.specs.Lists.{Every, some?, keep, count}
 use Rattle.rules.specs.declared.Due.{Due}
 use Rattle.rules.specs.Holds.{Row, Model, document, nothingDue}
-use Rattle.rules.specs.Commands.{Item, menuOf, menuBytes, eventBytes, isMenu}
+use Rattle.rules.specs.Commands.{Item, menuOf, menuBytes, eventBytes, intervalBytes, offBytes, isMenu}
 use Rattle.rules.specs.Desk as desk
 use Rattle.rules.specs.Desk.{Matter, dueMatters}
 use Rattle.rules.specs.Calls.{proactive, systemCommand, send, response}
@@ -16,7 +16,7 @@ use Rattle.rules.specs.Step.{step}
 use Rattle.rules.specs.Beside.{menuReader}
 use Rattle.history.specs.Histories.{History}
 use Rattle.history.specs.Named.{rowsNamed, inSession, isOutstanding}
-use Rattle.history.specs.Handed.{Seen, seen, titleOf, handed, handedSince, lastMenu, screen, isEventList, codesHanded, isShown, codesNamed}
+use Rattle.history.specs.Handed.{Seen, seen, titleOf, handed, handedSince, lastMenu, screen, isEventList, codesHanded, isPolling, lastPolling, isShown, codesNamed, intervalNamed, pollingNamed}
 
 -- the item of a menu for a row
 abbrev pub itemOf : Row → Item
@@ -39,10 +39,14 @@ pub record MenuRight (asked : List ℕ) (l : List Seen) (m : Model) (h : History
 unfoldable pub wanted : (asked : List ℕ) → List Row → History → Matter → List ℕ
 wanted asked rows h desk.menu = menuBytes (menuOf (titleOf asked) (keep (isShown h) rows))
 wanted asked rows h desk.eventList = eventBytes (codesNamed h)
+wanted asked rows h desk.pollInterval = intervalBytes (intervalNamed h)
+wanted asked rows h desk.pollingOff = offBytes
 
--- what a hand-out leaves due: the menu's mark is cleared, or else that of the event list
+-- what a hand-out leaves due: the menu's mark is cleared, or else that of the event list, or else that of polling
 abbrev pub leftDue : Due → Due
-leftDue due = if due .menu then record { menu = false; events = due .events } else nothingDue
+leftDue due =
+    if due .menu then record { menu = false; events = due .events; interval = due .interval; off = due .off } else
+    if due .events then record { menu = false; events = false; interval = due .interval; off = due .off } else nothingDue
 
 -- what a hand-out on this card hands out
 abbrev pub command : Model → (buffer : List ℕ) → List ℕ
@@ -54,8 +58,13 @@ pub record HandsOut (asked : List ℕ) (m : Model) (h : History) (buffer : List 
   pub menu-first : m .desk .due .menu ≡ true → command m buffer ≡ wanted asked (m .tables .rows) h desk.menu
   -- .. then the event list, if that is due ..
   pub then-events : m .desk .due .menu ≡ false → m .desk .due .events ≡ true → command m buffer ≡ wanted asked (m .tables .rows) h desk.eventList
+  -- .. then POLL INTERVAL with the system interval, or POLLING OFF, whichever of them is due ..
+  pub then-interval : m .desk .due .menu ≡ false → m .desk .due .events ≡ false → m .desk .due .interval ≡ true
+      → command m buffer ≡ wanted asked (m .tables .rows) h desk.pollInterval
+  pub then-off : m .desk .due .menu ≡ false → m .desk .due .events ≡ false → m .desk .due .off ≡ true
+      → command m buffer ≡ wanted asked (m .tables .rows) h desk.pollingOff
   -- .. else nothing, and the card is as it was ..
-  pub else-nothing : m .desk .due .menu ≡ false → m .desk .due .events ≡ false → (command m buffer ≡ []) × (step m (systemCommand buffer) .after ≡ m)
+  pub else-nothing : m .desk .due ≡ nothingDue → (command m buffer ≡ []) × (step m (systemCommand buffer) .after ≡ m)
   -- .. and clears its mark.
   pub clears : step m (systemCommand buffer) .after .desk .due ≡ leftDue (m .desk .due)
 
@@ -70,9 +79,16 @@ pub record ScreenRight (asked : List ℕ) (l : List Seen) (m : Model) (h : Histo
   -- IN A SESSION, UNLESS THE EVENT LIST IS DUE, the codes last handed since the profile (none: no codes) are exactly those that the
   -- history registers for a selectable applet.
   pub codes : inSession h ≡ true → m .desk .due .events ≡ false → codesHanded l ≡ codesNamed h
-  -- NO APPLET CHANGES THEM: what an accepted send gives the terminal is neither a menu nor an event list.
+  -- IN A SESSION, UNLESS ONE OF THE TWO COMMANDS FOR POLLING IS DUE, the last of them handed since the profile (none: POLLING OFF) says the
+  -- system interval that the history names, or that there is none.
+  pub polling : inSession h ≡ true → m .desk .due .interval ≡ false → m .desk .due .off ≡ false → lastPolling (handedSince l) ≡ pollingNamed h
+  -- NEVER ARE BOTH DUE: POLL INTERVAL is due only while the history names an interval, POLLING OFF only while it names none.
+  pub never-both : (m .desk .due .interval && m .desk .due .off) ≡ false
+  pub interval-due : m .desk .due .interval ≡ true → 1 ≤ intervalNamed h
+  pub off-due : m .desk .due .off ≡ true → intervalNamed h ≡ 0
+  -- NO APPLET CHANGES THEM: what an accepted send gives the terminal is neither a menu nor an event list nor a command for polling.
   pub sent : (n : ℕ) (bytes : List ℕ) → step m (proactive (send n bytes)) .answer .refusal ≡ 0
-      → (isMenu document bytes ≡ false) × (isEventList bytes ≡ false)
+      → (isMenu document bytes ≡ false) × (isEventList bytes ≡ false) × (isPolling bytes ≡ false)
   -- The menu that the history wants can be read back.
   pub read-back : menuReader document (wanted asked (m .tables .rows) h desk.menu) ≡ record { refusal = 0; menu = menuOf (titleOf asked) (keep (isShown h) (m .tables .rows)) }
   -- AN ACCEPTED HAND-OUT mends what is due, the menu first.

@@ -35,3 +35,8 @@ turned a b = go (a == b) refl
 -- a number cannot be two
 pub one-only : (a b c : ℕ) → (a == b) ≡ true → (b == c) ≡ false → (a == c) ≡ false
 one-only a b c p q = ne-eqb a c (λ z. eqb-false b c q (sym (eqb-true a b p) ∙ z))
+
+-- what cannot hold does not
+pub refuted : (b : Bool) → (b ≡ true → ⊥) → b ≡ false
+refuted true h = absurd (h refl)
+refuted false h = refl

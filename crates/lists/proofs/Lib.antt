@@ -30,3 +30,6 @@ pub mod Scan
 pub mod Parts
 pub mod WrittenParts
 pub mod Among
+pub mod Smallest
+pub mod Least
+pub mod Signed

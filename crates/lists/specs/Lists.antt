@@ -1,5 +1,5 @@
 -- Lists: what passes a test, where it stands, what changes, and the array that stands for a list.
-use Prim.Native.Nat.{ℕ, suc, _+_, _-_}
+use Prim.Native.Nat.{ℕ, suc, _+_, _-_, min}
 use mathlib.Core.Bool.{Bool, true, false, _&&_, _||_}
 use mathlib.Core.List.{List, [], _∷_, _++_}
 use lib.ListN.{length, take, drop, replicate}
@@ -98,6 +98,12 @@ same? l k = alike? (λ x y. x == y) l k
 unfoldable pub repeats? : List ℕ → List ℕ → Bool
 repeats? [] k = false
 repeats? (n ∷ l) k = in? n l || in? n k || repeats? l k
+
+-- the smallest of numbers; 0 where there is none
+unfoldable pub smallest : List ℕ → ℕ
+smallest [] = 0
+smallest (x ∷ []) = x
+smallest (x ∷ y ∷ l) = min x (smallest (y ∷ l))
 
 -- how often the number is in the list
 unfoldable pub times : ℕ → List ℕ → ℕ

@@ -18,7 +18,7 @@ use Rattle.lists.proofs.Changes.{first-changed, first-other, some-change, keep-
 use Rattle.rules.specs.declared.Request.{Request}
 use Rattle.rules.specs.declared.Kind.{Kind}
 use Rattle.rules.specs.declared.Kind.the-variants.{Event, Issuer, Reserved, Unsupported}
-use Rattle.rules.specs.Holds.{Applet, Row, Tables, withApplets, withSelectable, withEvent, withControl, withOneMore}
+use Rattle.rules.specs.Holds.{Applet, Row, Tables, withApplets, withSelectable, withEvent, withControl, withOneMore, withPoll}
 use Rattle.rules.specs.Events.{callControl, handlerAvailable}
 use Rattle.rules.specs.Applets.{hasNumber, present, applet, nobody, newcomer, forget, calledWhenSettled, usedUp, register, withRegistration}
 use Rattle.rules.specs.Rows.{withoutRows, withEntry, place, nextPair, nextIdentifier}
@@ -214,6 +214,10 @@ register-menu t n (Event e) b = go (e == callControl)
 register-menu t n Issuer b = kept-menu t t refl (λ o. refl)
 register-menu t n Reserved b = kept-menu t t refl (λ o. refl)
 register-menu t n Unsupported b = kept-menu t t refl (λ o. refl)
+
+-- A REQUEST FOR POLLING
+pub request-menu : (t : Tables) (n s : ℕ) → menuChanges t (withApplets t (change (hasNumber n) (withPoll s) (t .applets))) ≡ false
+request-menu t n s = kept-menu t _ refl (changed-alike t _ n (withPoll s) (λ x. refl) (λ x. refl) refl)
 
 -- SETTLED
 pub settled-menu : (t : Tables) → menuChanges t (withApplets t (map usedUp (t .applets))) ≡ false

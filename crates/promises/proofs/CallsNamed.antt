@@ -17,8 +17,8 @@ use Rattle.rules.specs.Envelopes.{envelopeOf}
 use Rattle.rules.specs.Rows.{nextPair}
 use Rattle.rules.specs.Commands.{Menu, menuOf}
 use Rattle.rules.specs.Arrivals.{Arrival, envelopeMarks, otherMarks}
-use Rattle.rules.specs.Calls.{Call, Answer, Outcome, entry, settled, systemCommand, newEntry}
-use Rattle.rules.specs.Desk.{Matter, menu, eventList, dueCommand, withProfile}
+use Rattle.rules.specs.Calls.{Call, Answer, Outcome, entry, arrival, status, settled, systemCommand, newEntry}
+use Rattle.rules.specs.Desk.{Matter, menu, eventList, pollInterval, pollingOff, dueCommand, withProfile}
 use Rattle.rules.specs.Step.{arrivalAnswer, arrivalDesk, answer, written, front, outcome, step}
 use Rattle.rules.specs.Beside.{ReadOutcome, menuReader}
 use Rattle.rules.specs.Runs.{cardAfter}
@@ -30,7 +30,7 @@ use Rattle.history.specs.Named.{isSelectable, hasOneShot}
 use Rattle.history.specs.Called.{isNamed, isDue, arrivalIn}
 use Rattle.history.specs.Handed.{Seen, seen, seenOf, handed, titleOf, isShown}
 use Rattle.history.specs.OnScreen.{wanted, command, ScreenRight}
-use Rattle.history.proofs.Answered.{passes, answers, refuses}
+use Rattle.history.proofs.Answered.{passes, answers, refuses, status-is-taken}
 use Rattle.history.proofs.OneShot.{Each, waits, only-settled-arrives-so}
 use Rattle.history.proofs.Promises as runs
 use Rattle.history.proofs.HandOuts.{handed-due}
@@ -82,6 +82,10 @@ module _ (title : List ℕ) (calls : List Call) (x : Call) where
   heard : step (m title calls) x .answer .refusal ≡ 0 → (n : ℕ) (a : Arrival) → arrivalIn x ≡ a → times n (calledBy s) ≡ (if isDue (h title calls) a n then 1 else 0)
   heard ok n a e = runs.event-names-each-once-in-order title calls x ok .once n ∙ ap (λ (a : Arrival). if isDue (h title calls) a n then 1 else 0) e
 
+  -- a STATUS is never refused
+  status-taken : x ≡ arrival status → step (m title calls) x .answer .refusal ≡ 0
+  status-taken e = ap (λ (y : Call). step (m title calls) y .answer .refusal) e ∙ status-is-taken (m title calls)
+
   -- the one-shot by the sets, now and after the call
   now : (n : ℕ) → has? (getD (c title calls .registered) handlerAvailable 0) n ≡ hasOneShot n (h title calls)
   unfolding hasOneShot
@@ -107,6 +111,7 @@ module _ (title : List ℕ) (calls : List Call) (x : Call) where
         choice-counts = λ i n ok e. heard ok n _ e;
         help-counts = λ i n ok e. heard ok n _ e;
         expiry-counts = λ t n ok e. heard ok n _ e;
+        status-counts = λ n e. heard (status-taken e) n _ (ap arrivalIn e);
         only-settled = only-settled-arrives-so x;
         fires = λ n ok e. heard ok n _ (ap arrivalIn e);
         used-up = λ n ok e. then-on n ∙ used n e ok ∙ sym (ap₂ (λ (a b : Bool). if a then false else b) (holds title calls .selectable n) (now n));
@@ -125,6 +130,7 @@ module _ (title : List ℕ) (calls : List Call) (x : Call) where
         envelope-marks = λ bytes ok e. marks-are ok e ∙ ap (λ (b : Bool). envelopeMarks b (envelopeOf bytes)) (runs.outstanding-is-named title calls);
         profile-marks = λ bytes ok e. marks-are ok e;
         settled-marks = λ ok e. marks-are ok e ∙ ap otherMarks (runs.outstanding-is-named title calls);
+        status-marks = λ e. (status-taken e, marks-are (status-taken e) e ∙ ap otherMarks (runs.outstanding-is-named title calls));
       }
     where
       marks-are : {y : Call} → step (m title calls) x .answer .refusal ≡ 0 → x ≡ y → s .entry .answer .marks ≡ answer (m title calls) y .marks
@@ -194,7 +200,9 @@ module _ (title : List ℕ) (calls : List Call) (x : Call) where
             menu-first = λ q. by ∙ does .menu-first q ∙ wanted-of menu;
             read-back = λ q. ap (menuReader document) (by ∙ does .menu-first q) ∙ right .read-back ∙ sym (ap (λ (r : List Row). readAs (menuOf (titleOf title) (keep (isShown (h title calls)) r))) (rows-are title calls));
             then-events = λ p q. by ∙ does .then-events p q ∙ wanted-of eventList;
-            else-nothing = λ p q. (by ∙ does .else-nothing p q .0, ap (λ (y : Call). stored (step (m title calls) y .after)) e ∙ ap stored (does .else-nothing p q .1));
+            then-interval = λ p q i. by ∙ does .then-interval p q i ∙ wanted-of pollInterval;
+            then-off = λ p q o. by ∙ does .then-off p q o ∙ wanted-of pollingOff;
+            else-nothing = λ q. (by ∙ does .else-nothing q .0, ap (λ (y : Call). stored (step (m title calls) y .after)) e ∙ ap stored (does .else-nothing q .1));
             at-the-front = ap (λ (y : Call). step (m title calls) y .buffer) e ∙ front-so (m title calls) buffer ok ∙ ap (λ (b : List ℕ). front b buffer) (sym (by ∙ due));
             clears = ap (λ (y : Call). step (m title calls) y .after .desk .due) e ∙ does .clears;
           }

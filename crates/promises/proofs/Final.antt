@@ -48,6 +48,10 @@ module _ {title : List ℕ} {l : List Seen} {c : Card} (w : Watched title l c) w
       record {
         menu = λ e. watched.screen-is-right w .menu (sym (holds-of-it w .session) ∙ e);
         codes = λ e. watched.screen-is-right w .codes (sym (holds-of-it w .session) ∙ e);
+        polling = λ e. watched.screen-is-right w .polling (sym (holds-of-it w .session) ∙ e);
+        never-both = watched.screen-is-right w .never-both;
+        interval-due = watched.screen-is-right w .interval-due;
+        off-due = watched.screen-is-right w .off-due;
         mends = λ buffers k q idle room few.
             ap (λ (v : Model). v .desk .due) (handed-view w q)
             ∙ watched.screen-is-right w .mends buffers (sym (holds-of-it w .outstanding) ∙ idle) room few;

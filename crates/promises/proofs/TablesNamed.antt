@@ -19,8 +19,8 @@ use Rattle.rules.specs.Calls.{Call}
 use Rattle.rules.specs.Runs.{cardAfter}
 use Rattle.rules.proofs.Held.{rows-back, desk-back}
 use Rattle.runs.proofs.Looked.{absent-nobody}
-use Rattle.applets.specs.ByNumber.{at, rollOf, selectableSet, registeredSet}
-use Rattle.applets.proofs.Numbers.{present-in}
+use Rattle.applets.specs.ByNumber.{at, rollOf, selectableSet, registeredSet, pollTable}
+use Rattle.applets.proofs.Numbers.{present-in, by-any}
 use Rattle.card.specs.declared.Card.{Card}
 use Rattle.card.specs.View.{stored}
 use Rattle.history.specs.Histories.{History}
@@ -80,7 +80,7 @@ module _ (title : List ℕ) (calls : List Call) where
 
   -- DEMAND 3, the tables
   pub holds : Holds title h c
-  unfolding stored storedRows storedDesk rollOf selectableSet registeredSet viewDesk applet
+  unfolding stored storedRows storedDesk rollOf selectableSet registeredSet pollTable viewDesk applet
   holds =
       record {
         rows = λ p. rw rows-are (runs.menu-list-holds-what-is-named title calls p);
@@ -100,6 +100,8 @@ module _ (title : List ℕ) (calls : List Call) where
         present = λ n. present-in (m .tables) (runs.sound title calls) (ground title calls .bounds) n ∙ runs.applets-are-those-named title calls n;
         selectable = λ n.
             in-set (λ (k : ℕ). at (m .tables .applets) k .selectable) n (λ o. ap (λ (x : Applet). x .selectable) (outside n o)) ∙ runs.agree title calls .tables .selectability n;
+        poll = λ n.
+            by-any (m .tables) (runs.sound title calls) (ground title calls .bounds) (λ (x : Applet). x .poll) n ∙ runs.request-is-the-one-named title calls n;
         applet-count = runs.applets-are-as-many title calls;
         title = ap (λ d. d .title) (desk-back (m .desk)) ∙ title-is-the-one-given title calls;
         profile = profile-is-the-last-one title calls;

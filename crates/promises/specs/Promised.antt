@@ -4,7 +4,7 @@
 use Prim.Native.Nat.{ℕ, suc, _-_, _≤_, _<_}
 use mathlib.Core.Path.{_≡_}
 use mathlib.Core.Logic.{_⊎_}
-use mathlib.Core.Bool.{Bool, true, false, _&&_}
+use mathlib.Core.Bool.{Bool, true, false, not, _&&_}
 use mathlib.Core.List.{List, [], _∷_, _++_, map}
 use lib.ListN.{length, take, drop, getD}
 use lib.IntN.{ℤ}
@@ -23,7 +23,7 @@ use Rattle.rules.specs.Arrivals.{choice, help as helpOn, expiry, settledArrival
 use Rattle.rules.specs.Commands.{menuOf, isMenu}
 use Rattle.rules.specs.Desk as desk
 use Rattle.rules.specs.Desk.{dueMatters}
-use Rattle.rules.specs.Calls.{Call, refusedWith, event, entry, arrival, settled, proactive, systemCommand, askEvent, newEntry, envelope, profile, send, response}
+use Rattle.rules.specs.Calls.{Call, refusedWith, event, entry, arrival, settled, proactive, systemCommand, askEvent, newEntry, envelope, profile, status, send, response}
 use Rattle.rules.specs.Refusals.{Line, lines}
 use Rattle.rules.specs.Step.{lent, front}
 use Rattle.rules.specs.Beside.{menuReader}
@@ -31,9 +31,9 @@ use Rattle.card.specs.declared.Card.{Card}
 use Rattle.card.specs.View.{view, Left}
 use Rattle.history.specs.Histories.{History, accepted}
 use Rattle.history.specs.Deeds.{clears, deletes}
-use Rattle.history.specs.Named.{isPresent, isSelectable, isRegistered, ownsTimer, hasOneShot, ownsControl, oneToEight, timerOwner, controlOwner, rowsNamed, inSession, isOutstanding, profileNamed}
+use Rattle.history.specs.Named.{isPresent, isSelectable, isRegistered, ownsTimer, pollOf, hasOneShot, ownsControl, oneToEight, timerOwner, controlOwner, rowsNamed, inSession, isOutstanding, profileNamed}
 use Rattle.history.specs.Called.{isChosen, isHelped, isDue, Calls, arrivalIn}
-use Rattle.history.specs.Handed.{Seen, titleOf, handed, isEventList, codesHanded, isShown, codesNamed}
+use Rattle.history.specs.Handed.{Seen, titleOf, handed, handedSince, isEventList, codesHanded, isPolling, lastPolling, isShown, codesNamed, intervalNamed, pollingNamed}
 use Rattle.history.specs.OnScreen.{wanted, leftDue, MenuRight}
 use Rattle.promises.specs.Watched.{entriesOf, callOf, refusalOf, calledBy, Next}
 use Rattle.promises.specs.OneShots.{SetAndSettled, FiresOnce}
@@ -59,11 +59,12 @@ pub record Judged (c : Card) (s : Seen) (k : Card) : Type 0 where
 
 -- DEMAND 2. Registration and triggering order stand with demand 3 (registered, called). HANDLER AVAILABILITY: the proactive handler while
 -- no command is outstanding (a profile ends it), the envelope handler with envelopes only, the response handler with call control and
--- unrecognized ones.
+-- unrecognized ones. A STATUS is never refused.
 pub record Handlers (h : History) (s : Seen) : Type 0 where
   pub envelope-marks : (bytes : List ℕ) → refusalOf s ≡ 0 → callOf s ≡ arrival (envelope bytes) → s .entry .answer .marks ≡ envelopeMarks (isOutstanding h) (envelopeOf bytes)
   pub profile-marks : (bytes : List ℕ) → refusalOf s ≡ 0 → callOf s ≡ arrival (profile bytes) → s .entry .answer .marks ≡ otherMarks false
   pub settled-marks : refusalOf s ≡ 0 → callOf s ≡ settled → s .entry .answer .marks ≡ otherMarks (isOutstanding h)
+  pub status-marks : callOf s ≡ arrival status → (refusalOf s ≡ 0) × (s .entry .answer .marks ≡ otherMarks (isOutstanding h))
 
 -- MENU ORDER: the position that applet n requested for its next entry, and the row that this entry makes.
 abbrev pub positionOf : Card → (applet : ℕ) → ℕ
@@ -93,8 +94,13 @@ pub record HandsOut (asked : List ℕ) (h : History) (c : Card) (s : Seen) (k : 
       → menuReader document (handed s) ≡ record { refusal = 0; menu = menuOf (titleOf asked) (keep (isShown h) (viewRows (c .rows))) }
   -- .. then the event list, if that is due, with the codes that the history wants ..
   pub then-events : c .desk .due .menu ≡ false → c .desk .due .events ≡ true → handed s ≡ wanted asked (viewRows (c .rows)) h desk.eventList
+  -- .. then POLL INTERVAL with the system interval that the history names, or POLLING OFF, whichever of them is due ..
+  pub then-interval : c .desk .due .menu ≡ false → c .desk .due .events ≡ false → c .desk .due .interval ≡ true
+      → handed s ≡ wanted asked (viewRows (c .rows)) h desk.pollInterval
+  pub then-off : c .desk .due .menu ≡ false → c .desk .due .events ≡ false → c .desk .due .off ≡ true
+      → handed s ≡ wanted asked (viewRows (c .rows)) h desk.pollingOff
   -- .. else nothing, and the card is as it was ..
-  pub else-nothing : c .desk .due .menu ≡ false → c .desk .due .events ≡ false → (handed s ≡ []) × (k ≡ c)
+  pub else-nothing : c .desk .due ≡ nothingDue → (handed s ≡ []) × (k ≡ c)
   -- .. writes it at the front of the buffer, leaves the rest, and clears its mark.
   pub at-the-front : s .buffer ≡ front (handed s) buffer
   pub clears : k .desk .due ≡ leftDue (c .desk .due)
@@ -110,8 +116,8 @@ pub record Shows (asked : List ℕ) (h : History) (c : Card) (s : Seen) (k : Car
   pub hands-out : (buffer : List ℕ) → refusalOf s ≡ 0 → callOf s ≡ systemCommand buffer → HandsOut asked h c s k buffer
   -- It is accepted if nothing is outstanding and the buffer has 256 bytes.
   pub accepts : (buffer : List ℕ) → callOf s ≡ systemCommand buffer → c .desk .outstanding ≡ false → 256 ≤ length buffer → refusalOf s ≡ 0
-  -- No applet changes the screen: what an accepted send gives the terminal is neither a menu nor an event list.
-  pub sent : (n : ℕ) (bytes : List ℕ) → refusalOf s ≡ 0 → callOf s ≡ proactive (send n bytes) → (isMenu document bytes ≡ false) × (isEventList bytes ≡ false)
+  -- No applet changes the screen: what an accepted send gives the terminal is neither a menu nor an event list nor a command for polling.
+  pub sent : (n : ℕ) (bytes : List ℕ) → refusalOf s ≡ 0 → callOf s ≡ proactive (send n bytes) → (isMenu document bytes ≡ false) × (isEventList bytes ≡ false) × (isPolling bytes ≡ false)
 
 -- DEMAND 3. The card's tables, after any calls, refused ones included, with this history of the accepted ones.
 pub record Holds (asked : List ℕ) (h : History) (c : Card) : Type 0 where
@@ -136,6 +142,8 @@ pub record Holds (asked : List ℕ) (h : History) (c : Card) : Type 0 where
   pub registered : (n e : ℕ) → e < 20 → (e == callControl) ≡ false → has? (getD (c .registered) e 0) n ≡ isRegistered n e h
   pub present : (n : ℕ) → has? (c .roll .present) n ≡ isPresent n h
   pub selectable : (n : ℕ) → has? (c .selectable) n ≡ isSelectable n h
+  -- The table of requests holds, by number, the poll interval that each last requested since it was installed.
+  pub poll : (n : ℕ) → getD (0 ∷ c .polls) n 0 ≡ pollOf n h
   pub applet-count : c .roll .count ≡ count (λ n. isPresent n h) oneToEight
   -- The title is the one that the card was made with (DocumentOne.antt); the profile, whether a session has begun and whether a command
   -- is outstanding are what the history names.
@@ -157,9 +165,11 @@ pub record Answers (h : History) (c : Card) (s : Seen) (k : Card) : Type 0 where
   -- .. a help request only while that row also offers help ..
   pub help-counts : (i n : ℕ) → refusalOf s ≡ 0 → arrivalIn (callOf s) ≡ helpOn i
       → times n (calledBy s) ≡ (if isSelectable n h && some? (isHelped i n) (rowsNamed h) then 1 else 0)
-  -- .. and the end of a timer calls the owner that the history names.
+  -- .. the end of a timer calls the owner that the history names ..
   pub expiry-counts : (t n : ℕ) → refusalOf s ≡ 0 → arrivalIn (callOf s) ≡ expiry t
       → times n (calledBy s) ≡ (if isSelectable n h && ownsTimer t n h then 1 else 0)
+  -- .. and a STATUS those whose request, as the history names it, is not none.
+  pub status-counts : (n : ℕ) → callOf s ≡ arrival status → times n (calledBy s) ≡ (if isSelectable n h && not (pollOf n h == 0) then 1 else 0)
   -- Only settled arrives as the one-shot's event. A ONE-SHOT fires exactly at an accepted settled that finds its applet selectable ..
   pub only-settled : arrivalIn (callOf s) ≡ settledArrival → callOf s ≡ settled
   pub fires : (n : ℕ) → refusalOf s ≡ 0 → callOf s ≡ settled → times n (calledBy s) ≡ (if isSelectable n h && hasOneShot n h then 1 else 0)
@@ -178,6 +188,13 @@ pub record OnScreen (asked : List ℕ) (l : List Seen) (c : Card) : Type 0 where
   -- history wants (MenuRight, crates/history/specs/OnScreen.antt); unless the event list is due, so are the codes last handed.
   pub menu : c .desk .session ≡ true → c .desk .due .menu ≡ false → MenuRight asked l (view c) (accepted (entriesOf l))
   pub codes : c .desk .session ≡ true → c .desk .due .events ≡ false → codesHanded l ≡ codesNamed (accepted (entriesOf l))
+  -- Unless one of the two commands for polling is due, the last of them handed says the system interval that the history names, or that
+  -- there is none. NEVER ARE BOTH DUE: POLL INTERVAL only while the history names an interval, POLLING OFF only while it names none.
+  pub polling : c .desk .session ≡ true → c .desk .due .interval ≡ false → c .desk .due .off ≡ false
+      → lastPolling (handedSince l) ≡ pollingNamed (accepted (entriesOf l))
+  pub never-both : (c .desk .due .interval && c .desk .due .off) ≡ false
+  pub interval-due : c .desk .due .interval ≡ true → 1 ≤ intervalNamed (accepted (entriesOf l))
+  pub off-due : c .desk .due .off ≡ true → intervalNamed (accepted (entriesOf l)) ≡ 0
   -- AS MANY HAND-OUTS AS MATTERS ARE DUE, each followed by its response, leave nothing due.
   pub mends : (buffers : List (List ℕ)) (k : Card) → HandedOut c buffers k → c .desk .outstanding ≡ false → Every (λ (b : List ℕ). 256 ≤ length b) buffers
       → length (dueMatters (c .desk .due)) ≤ length buffers → k .desk .due ≡ nothingDue

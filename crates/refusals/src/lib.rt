@@ -14,6 +14,7 @@ ghost use Rattle.rules.specs.declared.Command.the-variants.{Plain};
 ghost use Rattle.rules.specs.Holds.{Tables};
 ghost use Rattle.rules.specs.Events.{isControl, notSupported, notToSet};
 ghost use Rattle.rules.specs.Envelopes.{systemType};
+ghost use Rattle.rules.specs.Applets.{badDuration};
 ghost use Rattle.rules.specs.Refusals.{line, firstHolding};
 ghost use Rattle.refusals.specs.Lines.{unfitText, sendRefusal};
 
@@ -33,6 +34,22 @@ pub fn refusal_for(there: bool, kind: Kind) -> u8
 {
     if there {
         return events::refusal_of(kind);
+    }
+    refused::NO_APPLET
+}
+
+// Of a request for polling: there is no such applet, or the duration is none that may be requested.
+pub fn poll_refusal(there: bool, duration: i16) -> u8
+    ensures { λ r. ⌜ r ≡ firstHolding (line 2 (not there) ∷ line 20 (badDuration duration) ∷ []) ⌝ }
+{
+    if there {
+        if duration < -1 {
+            return refused::BAD_DURATION;
+        }
+        if 15300 < duration {
+            return refused::BAD_DURATION;
+        }
+        return 0;
     }
     refused::NO_APPLET
 }

@@ -11,7 +11,7 @@ use Rattle.rules.specs.Holds.{Bounds, Tables, Model}
 use Rattle.rules.specs.Events.{callControl, kindOf}
 use Rattle.rules.specs.Applets.{register, withRegistration}
 use Rattle.rules.specs.Calls.{Call, admin, event, entry, timer, arrival, settled, proactive, systemCommand}
-use Rattle.rules.specs.Calls.{install, delete, lock, unlock, setEvent, clearEvent, askEvent, newEntry, changeEntry, enableEntry, disableEntry, allocate, release}
+use Rattle.rules.specs.Calls.{install, delete, lock, unlock, setEvent, clearEvent, askEvent, requestPoll, newEntry, changeEntry, enableEntry, disableEntry, allocate, release}
 use Rattle.rules.specs.Refusals.{refusal}
 use Rattle.rules.specs.Step.{adminTables, eventTables, entryTables, timerTables, tablesAfter, changed, outcome, step}
 use Rattle.rules.specs.Beside.{freshBy, freshCard}
@@ -37,6 +37,7 @@ tables-keep t (admin (unlock n)) = refl
 tables-keep t (event (setEvent n v)) = register-keeps t n (kindOf v) true
 tables-keep t (event (clearEvent n v)) = register-keeps t n (kindOf v) false
 tables-keep t (event (askEvent n v)) = refl
+tables-keep t (event (requestPoll n d)) = refl
 tables-keep t (entry (newEntry n h x)) = refl
 tables-keep t (entry (changeEntry n i h x)) = refl
 tables-keep t (entry (enableEntry n i)) = refl

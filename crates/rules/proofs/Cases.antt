@@ -1,6 +1,6 @@
--- Document 01's table of proved cases and its easy slips hold, by computation. Assumes nothing.
+-- Document 01's table of proved cases and its easy slips, and those of polling, hold, by computation. Assumes nothing.
 use mathlib.Core.Path.{refl}
-use Rattle.rules.specs.Cases.{Cases, Slips}
+use Rattle.rules.specs.Cases.{Cases, Slips, Polled}
 use Rattle.rules.proofs.Compute.{compute}
 
 pub cases : Cases
@@ -38,4 +38,39 @@ slips =
       locked-not-called = refl;
       one-shot-stays = refl;
       one-shot-used-up = refl;
+    }
+
+pub polled-cases : Polled
+unfolding compute
+polled-cases =
+    record {
+      taken-1 = refl;
+      taken-15300 = refl;
+      taken-choice = refl;
+      refused-15301 = refl;
+      refused-below = refl;
+      absent-first = refl;
+      none-not-smallest = refl;
+      choice-is-none = refl;
+      status-calls = refl;
+      status-locked = refl;
+      handed-out = refl;
+      smallest-locked = refl;
+      other-locked = refl;
+      sharer-locked = refl;
+      only-locked = refl;
+      unlocked-again = refl;
+      smallest-deleted = refl;
+      only-deleted = refl;
+      locked-request = refl;
+      request-unlocked = refl;
+      off-gone = refl;
+      seconds-count = refl;
+      same-bytes = refl;
+      in-seconds = refl;
+      in-minutes = refl;
+      rounded-down = refl;
+      the-longest = refl;
+      interval-bytes = refl;
+      off-bytes = refl;
     }

@@ -20,7 +20,7 @@ use Rattle.rules.specs.Floor as floor′
 use Rattle.rules.specs.Held as held′
 
 unfoldable pub openLists : Unit {0}
-unfolding lists′.empty? lists′.some? lists′.every? lists′.Every lists′.keep lists′.count lists′.leading lists′.indexOf lists′.first lists′.change lists′.insertBefore lists′.insertAt lists′.sum lists′.gather lists′.alike? lists′.padded lists′.in? lists′.same? lists′.repeats? tables′.table
+unfolding lists′.empty? lists′.some? lists′.every? lists′.Every lists′.keep lists′.count lists′.leading lists′.indexOf lists′.first lists′.change lists′.insertBefore lists′.insertAt lists′.sum lists′.gather lists′.alike? lists′.padded lists′.in? lists′.same? lists′.repeats? lists′.smallest tables′.table
 openLists = tt
 
 unfoldable pub openText : Unit {0}
@@ -40,7 +40,7 @@ unfolding envelopes′.isSized envelopes′.onlyByte envelopes′.oneByte envelo
 openEnvelopes = tt
 
 unfoldable pub openApplets : Unit {0}
-unfolding applets′.isNumber applets′.present applets′.applet applets′.lookedAt applets′.outOfRange applets′.tooMany applets′.requested applets′.clash applets′.newcomer applets′.registered applets′.isRegistered applets′.ownedByAnother applets′.withRegistration applets′.register applets′.usedUp applets′.inOrder
+unfolding applets′.isNumber applets′.present applets′.applet applets′.lookedAt applets′.outOfRange applets′.tooMany applets′.requested applets′.clash applets′.newcomer applets′.registered applets′.isRegistered applets′.ownedByAnother applets′.withRegistration applets′.register applets′.badDuration applets′.secondsOf applets′.usedUp applets′.inOrder
 openApplets = tt
 
 unfoldable pub openRows : Unit {0}
@@ -56,11 +56,11 @@ unfolding arrivals′.download arrivals′.arrivalOf arrivals′.wants arrivals�
 openArrivals = tt
 
 unfoldable pub openCommands : Unit {0}
-unfolding commands′.selectable commands′.shownMenu commands′.listened commands′.shownFrom commands′.shownEvents commands′.menuOf commands′.lengthBytes commands′.commandBytes commands′.detailBytes commands′.itemBytes commands′.itemsBytes commands′.menuValue commands′.menuBytes commands′.eventBytes commands′.readItems commands′.partsOf commands′.valueOf commands′.readMenu commands′.properItem commands′.mayStand commands′.isMenu
+unfolding commands′.selectable commands′.shownMenu commands′.listened commands′.shownFrom commands′.shownEvents commands′.interval commands′.menuOf commands′.lengthBytes commands′.commandBytes commands′.detailBytes commands′.itemBytes commands′.itemsBytes commands′.menuValue commands′.menuBytes commands′.eventBytes commands′.durationBytes commands′.intervalBytes commands′.offBytes commands′.readItems commands′.partsOf commands′.valueOf commands′.readMenu commands′.properItem commands′.mayStand commands′.isMenu
 openCommands = tt
 
 unfoldable pub openDesk : Unit {0}
-unfolding desk′.sameRow? desk′.menuChanges desk′.eventsChange desk′.changes desk′.either desk′.marked desk′.shownSome desk′.withProfile desk′.isDue desk′.handedOut desk′.commandFor desk′.dueMatters desk′.firstCommand desk′.dueCommand desk′.withFirst desk′.withHandedOut
+unfolding desk′.sameRow? desk′.menuChanges desk′.eventsChange desk′.intervalChanges desk′.isPolled desk′.dueAfter desk′.marked desk′.dueAtFirst desk′.withProfile desk′.isDue desk′.handedOut desk′.commandFor desk′.dueMatters desk′.firstCommand desk′.dueCommand desk′.withFirst desk′.withHandedOut
 openDesk = tt
 
 unfoldable pub openRefusals : Unit {0}

@@ -1,8 +1,10 @@
--- Applets: the look-up by number, what an install asks for, registrations, and the order in which applets are called.
+-- Applets: the look-up by number, what an install asks for, registrations, requests for polling, and the order in which applets are called.
 use Prim.Native.Nat.{ℕ, _+_}
 use mathlib.Core.Bool.{Bool, true, false, not, _&&_, _||_}
 use mathlib.Core.List.{List, [], _∷_, map}
 use lib.ListN.{length, take, getD, replicate}
+use lib.IntN.{ℤ, pos, negsuc}
+use lib.Signed.{ltZ}
 use Rattle.lists.specs.Tests.{if_then_else_, _==_, _<?_, _≤?_}
 use Rattle.lists.specs.Lists.{some?, keep, first, change, insertBefore, sum, gather, repeats?}
 use Rattle.rules.specs.declared.Pair.{Pair}
@@ -10,7 +12,7 @@ use Rattle.rules.specs.declared.Request.{Request}
 use Rattle.rules.specs.declared.Kind.{Kind}
 use Rattle.rules.specs.declared.Kind.the-variants.{Event, Issuer, Reserved, Unsupported}
 use Rattle.rules.specs.Holds.{Applet, Bounds, Tables, withApplets, withControl, withEvent}
-use Rattle.rules.specs.Events.{supported, callControl, handlerAvailable}
+use Rattle.rules.specs.Events.{minus, supported, callControl, handlerAvailable}
 
 -- The look-up.
 -- an applet number: 1 to 8
@@ -38,6 +40,7 @@ nobody =
       made = 0;
       selectable = false;
       events = noEvents;
+      poll = 0;
     }
 
 -- the applet with a number, or nobody
@@ -74,7 +77,7 @@ requested pairs = keep (λ i. not (i == 0)) (map (λ (p : Pair). p .identifier) 
 unfoldable pub clash : Tables → Request → Bool
 clash t r = repeats? (requested (lookedAt r)) (gather (λ (x : Applet). requested (x .limits .pairs)) (t .applets))
 
--- the applet that an accepted install makes: selectable, with no entry made and registered for nothing
+-- the applet that an accepted install makes: selectable, with no entry made, registered for nothing and with no request for polling
 unfoldable pub newcomer : (number : ℕ) → Request → Applet
 newcomer n r =
     record {
@@ -84,6 +87,7 @@ newcomer n r =
       made = 0;
       selectable = true;
       events = noEvents;
+      poll = 0;
     }
 
 -- Registrations. Call control has one owner; any other event is kept applet by applet.
@@ -118,6 +122,20 @@ register t n (Event e) b = withRegistration t n e b
 register t n Issuer b = t
 register t n Reserved b = t
 register t n Unsupported b = t
+
+-- Poll intervals (document 02, Ask 1): an applet requests 1 to 15300 seconds, 0 for none, or -1 for the card's choice, which is none.
+-- refusal 20: any other duration
+unfoldable pub badDuration : (duration : ℤ) → Bool
+badDuration d = ltZ d (minus 1) || ltZ (pos 15300) d
+
+-- the seconds that an accepted duration requests
+unfoldable pub secondsOf : (duration : ℤ) → ℕ
+secondsOf (pos n) = n
+secondsOf (negsuc n) = 0
+
+-- the applet requests an interval
+abbrev pub polls : Applet → Bool
+polls x = not (x .poll == 0)
 
 -- a settled moment calls the applet: it is registered to proactive handler available, and selectable
 abbrev pub calledWhenSettled : Applet → Bool

@@ -8,13 +8,14 @@ use Rattle.rules.specs.declared.Marks.{Marks}
 use Rattle.rules.specs.Holds.{Model}
 use Rattle.rules.specs.Arrivals.{noMarks}
 
--- The calls, by what they touch. An applet is any number, an event value any signed number, bytes any bytes.
+-- The calls, by what they touch. An applet is any number, an event value and a duration any signed number, bytes any bytes.
 pub data AdminCall : Type 0 where
   install : (applet : ℕ) → Request → AdminCall
   delete lock unlock : (applet : ℕ) → AdminCall
 
 pub data EventCall : Type 0 where
   setEvent clearEvent askEvent : (applet : ℕ) (value : ℤ) → EventCall
+  requestPoll : (applet : ℕ) (duration : ℤ) → EventCall
 
 pub data EntryCall : Type 0 where
   newEntry : (applet : ℕ) (help : Bool) (text : List ℕ) → EntryCall
@@ -27,6 +28,7 @@ pub data TimerCall : Type 0 where
 
 pub data ArrivalCall : Type 0 where
   envelope profile : (bytes : List ℕ) → ArrivalCall
+  status : ArrivalCall
 
 pub data ProactiveCall : Type 0 where
   send : (applet : ℕ) (bytes : List ℕ) → ProactiveCall

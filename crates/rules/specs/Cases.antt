@@ -1,18 +1,21 @@
--- Document 01's table of proved cases and its easy slips, each about `step` on a card that calls have left; proved in
--- proofs/Cases.antt.
+-- Document 01's table of proved cases and its easy slips, and those of polling (document 02, Ask 1), each about `step` on a card that calls
+-- have left; proved in proofs/Cases.antt.
 use Prim.Native.Nat.{ℕ}
 use mathlib.Core.Path.{_≡_}
-use mathlib.Core.Bool.{false}
+use mathlib.Core.Bool.{true, false}
 use mathlib.Core.List.{List, [], _∷_, _++_, map, reverse}
 use lib.ListN.{replicate}
-use lib.IntN.{pos}
+use lib.IntN.{ℤ, pos}
 use Rattle.lists.specs.Text.{bytes}
 use Rattle.rules.specs.declared.Pair.{Pair}
+use Rattle.rules.specs.declared.Due.{Due}
 use Rattle.rules.specs.declared.Len.the-variants.{Known, Bad}
-use Rattle.rules.specs.Holds.{Row, Model, document}
+use Rattle.rules.specs.Holds.{Row, Model, document, nothingDue}
 use Rattle.rules.specs.Bytes.{lengthAt}
-use Rattle.rules.specs.Calls.{Call, admin, event, entry, timer, arrival}
-use Rattle.rules.specs.Calls.{install, delete, lock, unlock, setEvent, newEntry, allocate, release, envelope, settled}
+use Rattle.rules.specs.Events.{minus}
+use Rattle.rules.specs.Commands.{interval, durationBytes, intervalBytes, offBytes}
+use Rattle.rules.specs.Calls.{Call, admin, event, entry, timer, arrival, proactive, systemCommand}
+use Rattle.rules.specs.Calls.{install, delete, lock, unlock, setEvent, requestPoll, newEntry, allocate, release, envelope, profile, status, settled, response}
 use Rattle.rules.specs.Step.{step}
 use Rattle.rules.specs.Beside.{bankAllocate}
 use Rattle.rules.specs.Runs.{cardAfter}
@@ -120,3 +123,65 @@ pub record Slips : Type 0 where
   pub locked-not-called : settledAfter lockedOneShot ≡ []
   pub one-shot-stays : settledAfter (lockedOneShot ++ admin (unlock 1) ∷ []) ≡ 1 ∷ []
   pub one-shot-used-up : settledAfter (lockedOneShot ++ admin (unlock 1) ∷ settled ∷ []) ≡ []
+
+-- a request of applet n
+abbrev pub asking : (n : ℕ) (duration : ℤ) → Call
+asking n d = event (requestPoll n d)
+
+-- applets 1, 2 and 3 with these requests; then a session, its POLL INTERVAL handed out and responded to
+abbrev pub three : (one two three : ℕ) → List Call
+three a b c = plain 1 0 0 ∷ plain 2 0 0 ∷ plain 3 0 0 ∷ asking 1 (pos a) ∷ asking 2 (pos b) ∷ asking 3 (pos c) ∷ []
+
+abbrev pub polled : (one two three : ℕ) → List Call
+polled a b c = three a b c ++ arrival (profile (bytes "FF")) ∷ systemCommand (replicate 256 0) ∷ proactive response ∷ []
+
+-- what is due after calls; and what of polling is due where nothing else is
+abbrev pub dueBy : List Call → Due
+dueBy l = leftBy l .desk .due
+
+abbrev pub intervalDue : Due
+intervalDue = record { menu = false; events = false; interval = true; off = false }
+
+abbrev pub offDue : Due
+offDue = record { menu = false; events = false; interval = false; off = true }
+
+pub record Polled : Type 0 where
+  -- 1 to 15300 seconds, 0 and -1 are taken; any other duration gets 20, and 2 comes first.
+  pub taken-1 : refusalAfter (plain 1 0 0 ∷ []) (asking 1 (pos 1)) ≡ 0
+  pub taken-15300 : refusalAfter (plain 1 0 0 ∷ []) (asking 1 (pos 15300)) ≡ 0
+  pub taken-choice : refusalAfter (plain 1 0 0 ∷ []) (asking 1 (minus 1)) ≡ 0
+  pub refused-15301 : refusalAfter (plain 1 0 0 ∷ []) (asking 1 (pos 15301)) ≡ 20
+  pub refused-below : refusalAfter (plain 1 0 0 ∷ []) (asking 1 (minus 2)) ≡ 20
+  pub absent-first : refusalAfter (plain 1 0 0 ∷ []) (asking 2 (minus 2)) ≡ 2
+  -- Requests 20 and 0: the interval is 20; the card's choice is none.
+  pub none-not-smallest : interval (leftBy (three 20 0 300) .tables) ≡ 20
+  pub choice-is-none : interval (leftBy (three 20 0 300 ++ asking 1 (minus 1) ∷ []) .tables) ≡ 300
+  -- A STATUS calls those whose request is not none, the later installed first, and no locked one.
+  pub status-calls : step (leftBy (three 20 0 300)) (arrival status) .answer .called ≡ 3 ∷ 1 ∷ []
+  pub status-locked : step (leftBy (three 20 0 300 ++ admin (lock 3) ∷ [])) (arrival status) .answer .called ≡ 1 ∷ []
+  -- Once handed out, nothing is due. Lock of the one with the smallest request marks POLL INTERVAL, of another or of one that shares it
+  -- nothing, of the only one POLLING OFF; unlock and delete mark too.
+  pub handed-out : dueBy (polled 20 0 300) ≡ nothingDue
+  pub smallest-locked : dueBy (polled 20 0 300 ++ admin (lock 1) ∷ []) ≡ intervalDue
+  pub other-locked : dueBy (polled 20 0 300 ++ admin (lock 3) ∷ []) ≡ nothingDue
+  pub sharer-locked : dueBy (polled 20 20 300 ++ admin (lock 1) ∷ []) ≡ nothingDue
+  pub only-locked : dueBy (polled 20 0 0 ++ admin (lock 1) ∷ []) ≡ offDue
+  pub unlocked-again : dueBy (polled 20 0 0 ++ admin (lock 1) ∷ admin (unlock 1) ∷ []) ≡ intervalDue
+  pub smallest-deleted : dueBy (polled 20 0 300 ++ admin (delete 1) ∷ []) ≡ intervalDue
+  pub only-deleted : dueBy (polled 20 0 0 ++ admin (delete 1) ∷ []) ≡ offDue
+  -- A locked applet's request changes nothing; its unlock does.
+  pub locked-request : dueBy (three 0 0 0 ++ admin (lock 1) ∷ arrival (profile (bytes "FF")) ∷ asking 1 (pos 20) ∷ []) ≡ nothingDue
+  pub request-unlocked : dueBy (three 0 0 0 ++ admin (lock 1) ∷ arrival (profile (bytes "FF")) ∷ asking 1 (pos 20) ∷ admin (unlock 1) ∷ []) ≡ intervalDue
+  -- A further profile takes POLLING OFF away.
+  pub off-gone : dueBy (polled 20 0 0 ++ admin (lock 1) ∷ arrival (profile (bytes "FF")) ∷ []) ≡ nothingDue
+  -- 300 to 310 seconds marks though the bytes are the same.
+  pub seconds-count : dueBy (polled 300 0 0 ++ asking 1 (pos 310) ∷ []) ≡ intervalDue
+  pub same-bytes : intervalBytes 310 ≡ intervalBytes 300
+  -- Seconds up to 255, else minutes rounded down.
+  pub in-seconds : durationBytes 255 ≡ bytes "84 02 01 FF"
+  pub in-minutes : durationBytes 256 ≡ bytes "84 02 00 04"
+  pub rounded-down : durationBytes 359 ≡ bytes "84 02 00 05"
+  pub the-longest : durationBytes 15300 ≡ bytes "84 02 00 FF"
+  -- The commands.
+  pub interval-bytes : intervalBytes 20 ≡ bytes "D0 0D 81 03 01 03 00 82 02 81 82 84 02 01 14"
+  pub off-bytes : offBytes ≡ bytes "D0 09 81 03 01 04 00 82 02 81 82"

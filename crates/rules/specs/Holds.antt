@@ -20,6 +20,7 @@ pub record Applet : Type 0 where
   pub made : ℕ  -- how many of its entries are made
   pub selectable : Bool  -- or locked
   pub events : List Bool  -- whether it is registered, by the event's place; call control is not kept here
+  pub poll : ℕ  -- the poll interval that it requests, in seconds, to 15300; 0 is none
 
 -- A row of the menu list.
 pub record Row : Type 0 where
@@ -56,7 +57,7 @@ pub record Desk : Type 0 where
   pub profile : List ℕ  -- the first 32 bytes of the terminal profile
   pub session : Bool  -- a CAT session has begun
   pub outstanding : Bool  -- a proactive command is outstanding
-  pub due : Due  -- the due marks: menu and event list
+  pub due : Due  -- the due marks: menu, event list, and one of POLL INTERVAL and POLLING OFF
 
 -- THE CARD.
 pub record Model : Type 0 where
@@ -64,7 +65,7 @@ pub record Model : Type 0 where
   pub desk : Desk
 
 abbrev pub nothingDue : Due
-nothingDue = record { menu = false; events = false }
+nothingDue = record { menu = false; events = false; interval = false; off = false }
 
 -- a card with this title on which no call was made
 abbrev pub fresh : Bounds → List ℕ → Model
@@ -87,8 +88,8 @@ withTimers t x = record { bounds = t .bounds; applets = t .applets; rows = t .ro
 abbrev pub withControl : Tables → ℕ → Tables
 withControl t x = record { bounds = t .bounds; applets = t .applets; rows = t .rows; timers = t .timers; control = x }
 
-abbrev pub withState : Applet → (made : ℕ) (selectable : Bool) (events : List Bool) → Applet
-withState x made selectable events =
+abbrev pub withState : Applet → (made : ℕ) (selectable : Bool) (events : List Bool) (poll : ℕ) → Applet
+withState x made selectable events poll =
     record {
       number = x .number;
       priority = x .priority;
@@ -96,13 +97,17 @@ withState x made selectable events =
       made = made;
       selectable = selectable;
       events = events;
+      poll = poll;
     }
 
 abbrev pub withOneMore : Applet → Applet
-withOneMore x = withState x (suc (x .made)) (x .selectable) (x .events)
+withOneMore x = withState x (suc (x .made)) (x .selectable) (x .events) (x .poll)
 
 abbrev pub withSelectable : Bool → Applet → Applet
-withSelectable b x = withState x (x .made) b (x .events)
+withSelectable b x = withState x (x .made) b (x .events) (x .poll)
 
 abbrev pub withEvent : (event : ℕ) → Bool → Applet → Applet
-withEvent e b x = withState x (x .made) (x .selectable) (set (x .events) e b)
+withEvent e b x = withState x (x .made) (x .selectable) (set (x .events) e b) (x .poll)
+
+abbrev pub withPoll : (seconds : ℕ) → Applet → Applet
+withPoll s x = withState x (x .made) (x .selectable) (x .events) s

@@ -1,4 +1,4 @@
--- The refusal numbers (document 01, "Refusal numbers"). Of the lines that hold and list the call, the lowest number is given.
+-- The refusal numbers (document 01, "Refusal numbers"; from 20 on document 02). Of the lines that hold and list the call, the lowest number is given.
 --
 --    1  badEnvelope, badCommand, empty? (profile), not isMenu    11  notItsRow
 --    2  absent (install: not isNumber)                           12  badText; the title is too long
@@ -9,7 +9,7 @@
 --    7  notSupported                                             17  systemType
 --    8  notToSet                                                 18  the buffer has fewer than 256 bytes
 --    9  ownedByAnother, for call control                         19  not outstanding
---   10  allMade
+--   10  allMade                                                 20  badDuration
 --
 -- The calls that need no card (a fresh card, the menu reader, the bank alone) stand in Beside.
 use Prim.Native.Nat.{ℕ}
@@ -23,13 +23,13 @@ use Rattle.rules.specs.declared.Command.the-variants.{Plain, Timer, Malf
 use Rattle.rules.specs.Holds.{Tables, Desk, Model}
 use Rattle.rules.specs.Events.{kindOf, notSupported, notToSet, isControl}
 use Rattle.rules.specs.Envelopes.{envelopeOf, badEnvelope, commandOf, badCommand, systemType}
-use Rattle.rules.specs.Applets.{isNumber, present, applet, outOfRange, tooMany, clash, ownedByAnother}
+use Rattle.rules.specs.Applets.{isNumber, present, applet, outOfRange, tooMany, clash, ownedByAnother, badDuration}
 use Rattle.rules.specs.Rows.{allMade, notItsRow, badText}
 use Rattle.rules.specs.Timers.{atLimit, noneFree, notItsTimer}
 use Rattle.rules.specs.Calls.{Call, admin, event, entry, timer, arrival, settled, proactive, systemCommand}
-use Rattle.rules.specs.Calls.{AdminCall, install, delete, lock, unlock, EventCall, setEvent, clearEvent, askEvent}
+use Rattle.rules.specs.Calls.{AdminCall, install, delete, lock, unlock, EventCall, setEvent, clearEvent, askEvent, requestPoll}
 use Rattle.rules.specs.Calls.{EntryCall, newEntry, changeEntry, enableEntry, disableEntry, TimerCall, allocate, release}
-use Rattle.rules.specs.Calls.{ArrivalCall, envelope, profile, ProactiveCall, send, response}
+use Rattle.rules.specs.Calls.{ArrivalCall, envelope, profile, status, ProactiveCall, send, response}
 
 -- a line of the table: its number, and whether it holds
 pub record Line : Type 0 where
@@ -67,7 +67,7 @@ adminLines t (delete n) = line 2 (absent t n) ∷ []
 adminLines t (lock n) = line 2 (absent t n) ∷ []
 adminLines t (unlock n) = line 2 (absent t n) ∷ []
 
--- set, clear, ask event
+-- set, clear, ask event; request poll interval
 unfoldable pub eventLines : Tables → EventCall → List Line
 eventLines t (setEvent n v) =
     line 2 (absent t n)
@@ -77,6 +77,7 @@ eventLines t (setEvent n v) =
     ∷ []
 eventLines t (clearEvent n v) = line 2 (absent t n) ∷ line 7 (notSupported (kindOf v)) ∷ line 8 (notToSet (kindOf v)) ∷ []
 eventLines t (askEvent n v) = line 2 (absent t n) ∷ line 7 (notSupported (kindOf v)) ∷ line 8 (notToSet (kindOf v)) ∷ []
+eventLines t (requestPoll n d) = line 2 (absent t n) ∷ line 20 (badDuration d) ∷ []
 
 -- new, change, enable, disable entry
 unfoldable pub entryLines : Tables → EntryCall → List Line
@@ -92,10 +93,11 @@ timerLines t (allocate n) =
     line 2 (absent t n) ∷ line 13 (atLimit (t .timers) n (applet t n .limits .timers)) ∷ line 14 (noneFree (t .timers)) ∷ []
 timerLines t (release n k) = line 2 (absent t n) ∷ line 15 (notItsTimer (t .timers) n k) ∷ []
 
--- envelope, profile
+-- envelope, profile, STATUS
 unfoldable pub arrivalLines : ArrivalCall → List Line
 arrivalLines (envelope bytes) = line 1 (badEnvelope (envelopeOf bytes)) ∷ []
 arrivalLines (profile bytes) = line 1 (empty? bytes) ∷ []
+arrivalLines status = []
 
 -- send, response
 unfoldable pub proactiveLines : Tables → Desk → ProactiveCall → List Line

@@ -4,19 +4,19 @@ use mathlib.Core.Bool.{Bool, true, false, not}
 use mathlib.Core.List.{List, [], _∷_, _++_, map}
 use lib.ListN.{length, drop}
 use Rattle.lists.specs.Lists.{keep, change}
-use Rattle.rules.specs.Holds.{Applet, Tables, Desk, Model, withApplets, withRows, withTimers, withSelectable, withOneMore}
+use Rattle.rules.specs.Holds.{Applet, Tables, Desk, Model, withApplets, withRows, withTimers, withSelectable, withOneMore, withPoll}
 use Rattle.rules.specs.Events.{kindOf}
 use Rattle.rules.specs.Envelopes.{envelopeOf}
-use Rattle.rules.specs.Applets.{hasNumber, applet, newcomer, forget, register, isRegistered, usedUp}
+use Rattle.rules.specs.Applets.{hasNumber, applet, newcomer, forget, register, isRegistered, secondsOf, usedUp}
 use Rattle.rules.specs.Rows.{withEntry, nextIdentifier, withText, withEnabled, withoutRows}
 use Rattle.rules.specs.Timers.{lowestFree, withAllocated, withReleased, withoutTimers}
-use Rattle.rules.specs.Arrivals.{called, arrivalOf, profileArrival, settledArrival, envelopeMarks, otherMarks}
+use Rattle.rules.specs.Arrivals.{called, arrivalOf, profileArrival, status as statusArrival, settledArrival, envelopeMarks, otherMarks}
 use Rattle.rules.specs.Desk.{marked, withProfile, withOutstanding, withHandedOut, dueCommand}
 use Rattle.rules.specs.Calls.{Answer, Outcome, accepted, refusedWith, numbered, saying, calling}
 use Rattle.rules.specs.Calls.{Call, admin, event, entry, timer, arrival, settled, proactive, systemCommand}
-use Rattle.rules.specs.Calls.{AdminCall, install, delete, lock, unlock, EventCall, setEvent, clearEvent, askEvent}
+use Rattle.rules.specs.Calls.{AdminCall, install, delete, lock, unlock, EventCall, setEvent, clearEvent, askEvent, requestPoll}
 use Rattle.rules.specs.Calls.{EntryCall, newEntry, changeEntry, enableEntry, disableEntry, TimerCall, allocate, release}
-use Rattle.rules.specs.Calls.{ArrivalCall, envelope, profile, ProactiveCall, send, response}
+use Rattle.rules.specs.Calls.{ArrivalCall, envelope, profile, status, ProactiveCall, send, response}
 use Rattle.rules.specs.Refusals.{refusal}
 
 -- What an accepted call leaves of the tables.
@@ -37,6 +37,7 @@ unfoldable pub eventTables : Tables → EventCall → Tables
 eventTables t (setEvent n v) = register t n (kindOf v) true
 eventTables t (clearEvent n v) = register t n (kindOf v) false
 eventTables t (askEvent n v) = t
+eventTables t (requestPoll n d) = withApplets t (change (hasNumber n) (withPoll (secondsOf d)) (t .applets))
 
 unfoldable pub entryTables : Tables → EntryCall → Tables
 entryTables t (newEntry n help text) =
@@ -64,6 +65,7 @@ tablesAfter t (systemCommand buffer) = t
 unfoldable pub arrivalDesk : Model → ArrivalCall → Desk
 arrivalDesk m (envelope bytes) = m .desk
 arrivalDesk m (profile bytes) = withProfile (m .tables) bytes (m .desk)
+arrivalDesk m status = m .desk
 
 unfoldable pub proactiveDesk : Desk → ProactiveCall → Desk
 proactiveDesk d (send n bytes) = withOutstanding true d
@@ -89,6 +91,7 @@ unfoldable pub eventAnswer : Tables → EventCall → Answer
 eventAnswer t (setEvent n v) = accepted
 eventAnswer t (clearEvent n v) = accepted
 eventAnswer t (askEvent n v) = saying (isRegistered t n (kindOf v))
+eventAnswer t (requestPoll n d) = accepted
 
 unfoldable pub entryAnswer : Tables → EntryCall → Answer
 entryAnswer t (newEntry n help text) = numbered (nextIdentifier (applet t n) (t .rows))
@@ -104,6 +107,7 @@ unfoldable pub arrivalAnswer : Tables → (outstanding : Bool) → ArrivalCall �
 arrivalAnswer t outstanding (envelope bytes) =
     calling (called t (arrivalOf (envelopeOf bytes))) (envelopeMarks outstanding (envelopeOf bytes))
 arrivalAnswer t outstanding (profile bytes) = calling (called t profileArrival) (otherMarks outstanding)
+arrivalAnswer t outstanding status = calling (called t statusArrival) (otherMarks outstanding)
 
 -- the marks tell whether a command is left outstanding
 unfoldable pub answer : Model → Call → Answer

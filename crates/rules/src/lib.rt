@@ -83,11 +83,13 @@ impl Bank {
     pub const TIMERS: usize = 8;
 }
 
-// What is due, in the order of handing out.
+// What is due, in the order of handing out: the menu, the event list, POLL INTERVAL, POLLING OFF.
 #[repr(C)]
 pub struct Due {
     pub menu: bool,
     pub events: bool,
+    pub interval: bool,
+    pub off: bool,
 }
 
 // The terminal's side of the card.

@@ -1,4 +1,4 @@
-// The refusal numbers of document 01, in its order; specs/Refusals.antt says when each is given.
+// The refusal numbers of documents 01 and 02, in their order; specs/Refusals.antt says when each is given.
 pub const MALFORMED: u8 = 1;
 
 pub const NO_APPLET: u8 = 2;
@@ -36,3 +36,5 @@ pub const SYSTEM_TYPE: u8 = 17;
 pub const SHORT_BUFFER: u8 = 18;
 
 pub const NONE_OUTSTANDING: u8 = 19;
+
+pub const BAD_DURATION: u8 = 20;

@@ -12,7 +12,7 @@ use Rattle.lists.proofs.Decided.{both}
 use Rattle.lists.proofs.Every.{every-so}
 use Rattle.rules.specs.Holds.{Model}
 use Rattle.rules.specs.Calls.{Call, admin, event, entry, timer, arrival, settled, proactive, systemCommand}
-use Rattle.rules.specs.Calls.{install, delete, lock, unlock, setEvent, clearEvent, askEvent, newEntry, changeEntry, enableEntry, disableEntry, allocate, release, envelope, profile, send, response}
+use Rattle.rules.specs.Calls.{install, delete, lock, unlock, setEvent, clearEvent, askEvent, requestPoll, newEntry, changeEntry, enableEntry, disableEntry, allocate, release, envelope, profile, status, send, response}
 use Rattle.rules.specs.Refusals.{Line, firstHolding, lines, adminLines, eventLines, entryLines, timerLines, arrivalLines, proactiveLines, refusal}
 
 -- where no number is given, no line holds
@@ -39,6 +39,7 @@ lines-rise m (admin (unlock n)) = refl
 lines-rise m (event (setEvent n v)) = refl
 lines-rise m (event (clearEvent n v)) = refl
 lines-rise m (event (askEvent n v)) = refl
+lines-rise m (event (requestPoll n d)) = refl
 lines-rise m (entry (newEntry n h t)) = refl
 lines-rise m (entry (changeEntry n i h t)) = refl
 lines-rise m (entry (enableEntry n i)) = refl
@@ -47,6 +48,7 @@ lines-rise m (timer (allocate n)) = refl
 lines-rise m (timer (release n k)) = refl
 lines-rise m (arrival (envelope s)) = refl
 lines-rise m (arrival (profile s)) = refl
+lines-rise m (arrival status) = refl
 lines-rise m settled = refl
 lines-rise m (proactive (send n s)) = refl
 lines-rise m (proactive response) = refl

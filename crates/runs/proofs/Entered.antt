@@ -120,6 +120,7 @@ module _ (t : Tables) (g : SoundTables t) (n : â„•) (help : Bool) (text : List â
         identifiers = s .identifiers;
         made = a .more;
         events = s .events;
+        poll = s .poll;
       }
 
   each-after : Every (SoundApplet (t .bounds)) (made t n help text)

@@ -74,16 +74,17 @@ module _ (t : Tables) (l : List Applet) (match : Matched SameLimits (t .applets)
   requests-still =
       matched-gather SameLimits (λ (x : Applet). requested (x .limits .pairs)) (λ x y q. ap (λ (z : Limits). requested (z .pairs)) (q .limits)) (t .applets) l match
 
--- and with the same priority and entries made besides, and as many places for events
+-- and with the same priority and entries made besides, as many places for events, and a request that stays in its range
 pub record SameApplet (x y : Applet) : Type 0 where
   pub number : y .number ≡ x .number
   pub priority : y .priority ≡ x .priority
   pub limits : y .limits ≡ x .limits
   pub made : y .made ≡ x .made
   pub events : length (y .events) ≡ length (x .events)
+  pub poll : x .poll ≤ 15300 → y .poll ≤ 15300
 
 pub same-self : (x : Applet) → SameApplet x x
-same-self x = record { number = refl; priority = refl; limits = refl; made = refl; events = refl }
+same-self x = record { number = refl; priority = refl; limits = refl; made = refl; events = refl; poll = λ h. h }
 
 module _ (t : Tables) (l : List Applet) (match : Matched SameApplet (t .applets) l) (g : SoundTables t) where
   abbrev changed : Tables
@@ -108,6 +109,7 @@ module _ (t : Tables) (l : List Applet) (match : Matched SameApplet (t .applets)
         identifiers = rw (q .limits) (s .identifiers);
         made = rw (q .limits, q .made) (s .made);
         events = q .events ∙ s .events;
+        poll = q .poll (s .poll);
       }
 
   served-still : (n : ℕ) → served (applet changed n) ≡ served (applet t n)

@@ -68,6 +68,7 @@ module _ (t : Tables) (g : SoundTables t) (n : ℕ) (r : Request) (a : Installs 
         identifiers = a .identifiers;
         made = omega arith;
         events = length-replicate 20 false;
+        poll = omega arith;
       }
 
   each : Every (SoundApplet (t .bounds)) (more t n r)

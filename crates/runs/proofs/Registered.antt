@@ -1,12 +1,14 @@
--- The event calls, lock, unlock and a settled moment keep the tables sound.
+-- The event calls, a request for polling, lock, unlock and a settled moment keep the tables sound.
 -- Assumes nothing.
-use Prim.Native.Nat.{ℕ}
+use Prim.Native.Nat.{ℕ, _≤_}
+use native.Mathlib.Omega.{arith}
 use mathlib.Core.Path.{_≡_, refl, ap, _∙_}
 use mathlib.Core.Bool.{Bool, true, false, _&&_}
 use mathlib.Core.Logic.{inr}
 use mathlib.Core.List.{map}
 use lib.ListN.{getD, length-set}
-use borrow.Author.Tests.{eqb-true}
+use lib.IntN.{ℤ, pos, negsuc}
+use borrow.Author.Tests.{eqb-true, ltb-false}
 use Rattle.lists.specs.Tests.{if_then_else_, _==_}
 use Rattle.lists.specs.Lists.{Every, change}
 use Rattle.lists.proofs.Decided.{turned}
@@ -15,10 +17,10 @@ use Rattle.lists.proofs.Ifs.{if-holds}
 use Rattle.lists.proofs.Places.{getD-clear}
 use Rattle.rules.specs.declared.Kind.{Kind}
 use Rattle.rules.specs.declared.Kind.the-variants.{Event, Issuer, Reserved, Unsupported}
-use Rattle.rules.specs.Holds.{Applet, Tables, Model, withApplets, withControl, withSelectable, withEvent}
+use Rattle.rules.specs.Holds.{Applet, Tables, Model, withApplets, withControl, withSelectable, withEvent, withPoll}
 use Rattle.rules.specs.Events.{kindOf, callControl, handlerAvailable}
-use Rattle.rules.specs.Applets.{hasNumber, present, nobody, forget, withRegistration, register, calledWhenSettled, usedUp}
-use Rattle.rules.specs.Calls.{EventCall, event, setEvent, clearEvent, askEvent}
+use Rattle.rules.specs.Applets.{hasNumber, present, nobody, forget, withRegistration, register, badDuration, secondsOf, calledWhenSettled, usedUp}
+use Rattle.rules.specs.Calls.{EventCall, event, setEvent, clearEvent, askEvent, requestPoll}
 use Rattle.rules.specs.Refusals.{lines, eventLines, refusal}
 use Rattle.rules.specs.Step.{eventTables}
 use Rattle.runs.specs.Sound.{SoundTables}
@@ -31,10 +33,13 @@ pub changed-sound : (t : Tables) (n : ℕ) (f : Applet → Applet) → ((x : App
 changed-sound t n f h g = applets-frame t _ (matched-change SameApplet (hasNumber n) f nobody same-self (t .applets) (h _)) g
 
 pub selectable-same : (b : Bool) (x : Applet) → SameApplet x (withSelectable b x)
-selectable-same b x = record { number = refl; priority = refl; limits = refl; made = refl; events = refl }
+selectable-same b x = record { number = refl; priority = refl; limits = refl; made = refl; events = refl; poll = λ h. h }
 
 event-same : (e : ℕ) (b : Bool) (x : Applet) → SameApplet x (withEvent e b x)
-event-same e b x = record { number = refl; priority = refl; limits = refl; made = refl; events = length-set (x .events) e b }
+event-same e b x = record { number = refl; priority = refl; limits = refl; made = refl; events = length-set (x .events) e b; poll = λ h. h }
+
+pub poll-same : (s : ℕ) → s ≤ 15300 → (x : Applet) → SameApplet x (withPoll s x)
+poll-same s few x = record { number = refl; priority = refl; limits = refl; made = refl; events = refl; poll = λ h. few }
 
 register-sound : (t : Tables) (n : ℕ) (k : Kind) (b : Bool) → present t n ≡ true → SoundTables t → SoundTables (register t n k b)
 unfolding register withRegistration
@@ -48,11 +53,18 @@ register-sound t n Issuer b here g = g
 register-sound t n Reserved b here g = g
 register-sound t n Unsupported b here g = g
 
+-- a duration that is taken is no more than 15300 seconds
+pub seconds-few : (d : ℤ) → badDuration d ≡ false → secondsOf d ≤ 15300
+unfolding badDuration secondsOf
+seconds-few (pos n) e = ltb-false 15300 n e
+seconds-few (negsuc n) e = omega arith
+
 pub event-sound : (m : Model) (c : EventCall) → refusal m (event c) ≡ 0 → SoundTables (m .tables) → SoundTables (eventTables (m .tables) c)
 unfolding eventTables lines eventLines Every
 event-sound m (setEvent n v) e g = register-sound (m .tables) n (kindOf v) true (is-here (m .tables) n (accepted m (event (setEvent n v)) e .0)) g
 event-sound m (clearEvent n v) e g = register-sound (m .tables) n (kindOf v) false (is-here (m .tables) n (accepted m (event (clearEvent n v)) e .0)) g
 event-sound m (askEvent n v) e g = g
+event-sound m (requestPoll n d) e g = changed-sound (m .tables) n (withPoll (secondsOf d)) (poll-same (secondsOf d) (seconds-few d (accepted m (event (requestPoll n d)) e .1 .0))) g
 
 used-same : (x : Applet) → SameApplet x (usedUp x)
 unfolding usedUp

@@ -15,8 +15,8 @@ use Rattle.lists.proofs.Counts.{count-replicate}
 use Rattle.lists.proofs.Padded.{length-padded}
 use Rattle.rules.specs.Holds.{Bounds, Tables, Desk, Model, document, fresh}
 use Rattle.rules.specs.Applets.{present, applet}
-use Rattle.rules.specs.Desk.{Matter, changes, either, marked, withMarks, withProfile, dueMatters, withFirst, withHandedOut}
-use Rattle.rules.specs.Calls.{Call, admin, event, entry, timer, arrival, settled, proactive, systemCommand, envelope, profile, send, response}
+use Rattle.rules.specs.Desk.{Matter, dueAfter, marked, withMarks, withProfile, dueMatters, withFirst, withHandedOut}
+use Rattle.rules.specs.Calls.{Call, admin, event, entry, timer, arrival, settled, proactive, systemCommand, envelope, profile, status, send, response}
 use Rattle.rules.specs.Refusals.{line, firstHolding, refusal}
 use Rattle.rules.specs.Step.{tablesAfter, arrivalDesk, proactiveDesk, deskAfter, changed, outcome, step}
 use Rattle.rules.specs.Beside.{freshBy, freshCard}
@@ -97,6 +97,7 @@ desk-lasts m (timer c) = lasts (m .desk)
 desk-lasts m (arrival (envelope bytes)) = lasts (m .desk)
 desk-lasts m (arrival (profile bytes)) =
     record { title = refl; profile = λ h. length-padded 32 0 (take 32 bytes) (omega (arith, length-take 32 bytes)) }
+desk-lasts m (arrival status) = lasts (m .desk)
 desk-lasts m settled = lasts (m .desk)
 desk-lasts m (proactive (send n bytes)) = record { title = refl; profile = λ h. h }
 desk-lasts m (proactive response) = record { title = refl; profile = λ h. h }
@@ -106,7 +107,7 @@ pub marked-lasts : (before later : Tables) (d : Desk) → Lasting d (marked befo
 unfolding marked
 marked-lasts before later d = go (d .session)
   where
-    go : (s : Bool) → Lasting d (if s then withMarks d (d .outstanding) (either (d .due) (changes before later)) else d)
+    go : (s : Bool) → Lasting d (if s then withMarks d (d .outstanding) (dueAfter before later (d .due)) else d)
     go true = record { title = refl; profile = λ h. h }
     go false = lasts d
 

@@ -13,7 +13,7 @@ use Rattle.rules.specs.Events.{supported}
 use Rattle.rules.specs.Applets.{hasNumber, present, applet, entries, requested}
 use Rattle.rules.specs.Rows.{hasIdentifier}
 
--- an applet: its number, its limits within the bounds, and no more entries made than its limit
+-- an applet: its number, its limits within the bounds, no more entries made than its limit, and its request
 pub record SoundApplet (b : Bounds) (x : Applet) : Type 0 where
   pub number-from : 1 ≤ x .number
   pub number-to : x .number ≤ b .applets
@@ -24,6 +24,7 @@ pub record SoundApplet (b : Bounds) (x : Applet) : Type 0 where
   pub identifiers : Every (λ (p : Pair). p .identifier ≤ 127) (x .limits .pairs)
   pub made : x .made ≤ length (x .limits .pairs)
   pub events : length (x .events) ≡ length supported
+  pub poll : x .poll ≤ 15300
 
 -- the identifiers, other than 0, that an applet requested for the entries it has made
 unfoldable pub served : Applet → List ℕ

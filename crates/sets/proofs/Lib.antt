@@ -1,3 +1,4 @@
 -- Laws of the sets.
 pub mod Bits
 pub mod LeftOut
+pub mod Built

@@ -5,8 +5,8 @@ use rules::Answer;
 use rules::Request;
 ghost use mathlib.Core.List.{[]};
 ghost use Rattle.rules.specs.Calls.{admin, event, entry, timer as timer-call, arrival, settled, proactive, systemCommand};
-ghost use Rattle.rules.specs.Calls.{install, delete, lock, unlock, setEvent, clearEvent, askEvent, newEntry, changeEntry, enableEntry, disableEntry};
-ghost use Rattle.rules.specs.Calls.{allocate, release, profile, envelope, send, response};
+ghost use Rattle.rules.specs.Calls.{install, delete, lock, unlock, setEvent, clearEvent, askEvent, requestPoll, newEntry, changeEntry, enableEntry, disableEntry};
+ghost use Rattle.rules.specs.Calls.{allocate, release, profile, envelope, status, send, response};
 ghost use Rattle.card.specs.View.{Left};
 ghost use Rattle.toolkit.specs.Does.{Does};
 
@@ -90,6 +90,18 @@ pub extern "C" fn toolkit_ask_event(card: &mut Card, applet: u8, value: i16) -> 
 {
     let before = *card;
     let after = before.ask_event(applet, value);
+    after.answer
+}
+
+// Takes an applet's request for a poll interval.
+#[no_mangle]
+pub extern "C" fn toolkit_request_poll(card: &mut Card, applet: u8, duration: i16) -> Answer
+    requires { ⌜ Left (now card) ⌝ }
+    ensures { λ r. ⌜ Does (now (card .entry)) (event (requestPoll applet duration)) (now (card .exit)) r [] ⌝ }
+{
+    let before = *card;
+    let after = before.request_poll(applet, duration);
+    *card = after.card;
     after.answer
 }
 
@@ -191,6 +203,17 @@ pub extern "C" fn toolkit_envelope(card: &mut Card, bytes: &[u8]) -> Answer
 {
     let before = *card;
     let after = before.envelope(bytes);
+    after.answer
+}
+
+// Names those who request a poll interval.
+#[no_mangle]
+pub extern "C" fn toolkit_status(card: &mut Card) -> Answer
+    requires { ⌜ Left (now card) ⌝ }
+    ensures { λ r. ⌜ Does (now (card .entry)) (arrival status) (now (card .exit)) r [] ⌝ }
+{
+    let before = *card;
+    let after = before.status();
     after.answer
 }
 

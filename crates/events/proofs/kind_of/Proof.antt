@@ -3,9 +3,11 @@
 use mathlib.Core.Path.{sym, ap}
 use mathlib.Core.Bool.{true, false}
 use mathlib.Core.List.{map}
+use lib.Signed.{ltZ}
 use mir.Syntax.{w16}
+use Rattle.lists.proofs.Signed.{tested}
 use Rattle.rules.specs.Events.{supported, valueOf, kindOf, named, minus}
-use Rattle.events.proofs.Table.{of-bits, tested, missed}
+use Rattle.events.proofs.Table.{of-bits, missed}
 use Rattle.events.proofs.kind_of.Statement.{statement}
 use Rattle.events.proofs.kind_of.Tie as tie
 
@@ -91,19 +93,19 @@ returns-20 c = ap kindOf (sym (of-bits w16 _ 123 (c .before .fits .value) (c .ma
 
 returns-21 : tie.Need-returns-21
 unfolding kindOf
-returns-21 c = simp (tested w16 _ (minus 128) true (c .before .before .fits .value) (c .if1 .taken))
+returns-21 c = simp (tested w16 _ (λ v. ltZ v (minus 128)) true (c .before .before .fits .value) (c .if1 .taken))
 
 returns-22 : tie.Need-returns-22
 unfolding kindOf
 returns-22 c =
     let f = c .before .before .before .fits .value in
-    simp (tested w16 _ (minus 128) false f (c .before .if1 .left), tested w16 _ (minus 64) true f (c .if2 .taken))
+    simp (tested w16 _ (λ v. ltZ v (minus 128)) false f (c .before .if1 .left), tested w16 _ (λ v. ltZ v (minus 64)) true f (c .if2 .taken))
 
 returns-23 : tie.Need-returns-23
 unfolding kindOf named
 returns-23 c =
     let f = c .before .before .before .fits .value in
-    simp (tested w16 _ (minus 128) false f (c .before .if1 .left), tested w16 _ (minus 64) false f (c .if2 .left))
+    simp (tested w16 _ (λ v. ltZ v (minus 128)) false f (c .before .if1 .left), tested w16 _ (λ v. ltZ v (minus 64)) false f (c .if2 .left))
     (sym (missed w16 (c .before .before .before .args .value) Unit 0 (map valueOf supported) (c .before .before .match .rest)))
 
 pub kind-of-spec : {M : Type 1} → statement M

@@ -34,6 +34,9 @@ menu-turns-requires c κs = tidy-rows _ (c .before .before .before .before .befo
 codes-turn-requires : tie.Need-codes-turn-requires
 codes-turn-requires c κs = search needs
 
+due-switched-requires : tie.Need-due-switched-requires
+due-switched-requires c κs = search needs
+
 due-after-requires : tie.Need-due-after-requires
 due-after-requires c κs = search needs
 
@@ -55,7 +58,7 @@ returns c =
     let s = h .before in
     ⊎-elim
     (λ w. lock-turned (s .args .self) (s .pre) (s .args .applet) false (h .has .ensures) (a .absent-refusal .ensures) (sym (t .lock-switches .ensures) ∙ w .0 .taken)
-    (w .1 .ensures) (w .3 .ensures) (w .5 .ensures) (w .6 .ensures) (w .7 .ensures) (w .10) (c .of-refusal .ensures))
+    (w .1 .ensures) (w .3 .ensures) (w .5 .ensures) (w .7 .ensures) (w .8 .ensures) (w .9 .ensures) (w .14) (c .of-refusal .ensures))
     (λ w. lock-still (s .args .self) (s .pre) (s .args .applet) false (h .has .ensures) (a .absent-refusal .ensures) (sym (t .lock-switches .ensures) ∙ w .0 .left) (w .1) (c .of-refusal .ensures))
     (j .if1 .came)
 
@@ -68,6 +71,7 @@ lock-spec =
     switched-requires
     menu-turns-requires
     codes-turn-requires
+    due-switched-requires
     due-after-requires
     due-after-requires-2
     absent-refusal-requires

@@ -31,13 +31,17 @@ has-shown-row-requires c κs = tidy-rows _ (c .before .before .before .before .b
 any-listened-requires : tie.Need-any-listened-requires
 any-listened-requires c κs = search needs
 
+any-polled-requires : tie.Need-any-polled-requires
+any-polled-requires c κs = search needs
+
 begun-requires : tie.Need-begun-requires
 begun-requires c κs = search needs
 
 returns : tie.Need-returns
 returns c =
     let d = c .before in
-    let y = d .before .before in
+    let i = d .before .before in
+    let y = i .before .before in
     let x = y .before in
     let a = x .before .before in
     let n = a .before in
@@ -45,11 +49,11 @@ returns c =
     let w = k .before .before in
     let r = w .before .before in
     begins-session _ (r .before .before .pre) _ (r .refusal-if .ensures) (w .called .ensures) (k .listed .ensures) (n .other-marks .ensures) (a .answered .ensures)
-    (x .has-shown-row .ensures) (y .any-listened .ensures) (d .begun .ensures) (c .if1 .taken)
+    (x .has-shown-row .ensures) (y .any-listened .ensures) (i .any-polled .ensures) (d .begun .ensures) (c .if1 .taken)
 
 returns-2 : tie.Need-returns-2
 returns-2 c =
-    let a = c .before .before .before .before .before .before in
+    let a = c .before .before .before .before .before .before .before .before in
     let n = a .before in
     let k = n .before in
     let w = k .before .before in
@@ -69,6 +73,7 @@ profile-spec =
     answered-requires
     has-shown-row-requires
     any-listened-requires
+    any-polled-requires
     begun-requires
     returns
     returns-2)

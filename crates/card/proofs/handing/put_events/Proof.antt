@@ -1,6 +1,6 @@
 -- `put_events` meets its contract.
 -- Assumes nothing.
-use Rattle.card.proofs.Handed.{codes-room, codes-count, codes-few, codes-wrote}
+use Rattle.card.proofs.Written.{codes-room, codes-count, codes-few, codes-wrote}
 use borrow.Author.Needs.{needs}
 use Rattle.card.proofs.handing.put_events.Statement.{statement}
 use Rattle.card.proofs.handing.put_events.Tie as tie

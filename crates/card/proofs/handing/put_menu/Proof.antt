@@ -2,7 +2,8 @@
 -- Assumes nothing.
 use mathlib.Core.Path.{sym}
 use lib.Seq.{length-take-le}
-use Rattle.card.proofs.Handed.{title-most, menu-wrote}
+use Rattle.card.proofs.Written.{menu-wrote}
+use Rattle.card.proofs.Handed.{title-most}
 use borrow.Author.Needs.{needs}
 use Rattle.card.proofs.handing.put_menu.Statement.{statement}
 use Rattle.card.proofs.handing.put_menu.Tie as tie

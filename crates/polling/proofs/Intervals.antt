@@ -1,0 +1,142 @@
+-- The system interval and the set of those who request one, from the last place to the first; whether there is one, and what leaves it.
+-- Assumes nothing.
+use Prim.Native.Nat.{ℕ, suc, _+_, _-_, _*_, _≤_, _<_}
+use native.Mathlib.Omega.{arith}
+use mathlib.Core.Path.{_≡_, refl, sym, ap, _∙_}
+use mathlib.Core.Bool.{Bool, true, false, not, _&&_}
+use mathlib.Core.List.{List, [], _∷_, map}
+use lib.ListN.{length, drop, getD}
+use borrow.Author.Tests.{eqb-true, eq-eqb, ne-eqb}
+use Rattle.lists.specs.Tests.{if_then_else_, _==_}
+use Rattle.lists.specs.Lists.{Every, keep, smallest}
+use Rattle.lists.specs.Tables.{table}
+use Rattle.lists.proofs.Least.{leastOf, least-there, least-more, least-step}
+use Rattle.lists.proofs.Mapped.{map-some}
+use Rattle.lists.proofs.Tables.{table-at, table-alike, table-length}
+use Rattle.lists.proofs.Truth.{and-true, and-false}
+use Rattle.sets.specs.Sets.{numbers, has?, setOf, valued, meets, switchedSet}
+use Rattle.sets.proofs.Bits.{one-of, has-set, some-each}
+use Rattle.sets.proofs.Built.{built-small, built-yes, built-no}
+use Rattle.applets.specs.ByNumber.{byNumber}
+use Rattle.polling.specs.declared.Polling.{Polling}
+use Rattle.polling.specs.Polls.{pollingSet, intervalOf, pollingAfter}
+
+-- what counts in each place
+unfoldable pub counted : (polls : List ℕ) (set : ℕ) → List ℕ
+counted polls set = table 8 (λ i. if has? set (suc i) then getD polls i 0 else 0)
+
+-- THE INTERVAL, of the places from i on
+module _ (polls : List ℕ) (set : ℕ) where
+  pub interval-none : 0 ≡ leastOf (drop 8 (counted polls set))
+  unfolding counted table keep smallest
+  interval-none = refl
+
+  module _ (i : ℕ) {l : ℕ} {b : Bool} (some : 0 < i) (few : i ≤ 8) (from : l ≡ leastOf (drop i (counted polls set))) (own : b ≡ has? set i) where
+    stepped : leastOf (drop (i - 1) (counted polls set)) ≡ leastOf ((if b then getD polls (i - 1) 0 else 0) ∷ l ∷ [])
+    unfolding counted
+    stepped =
+        let back : i - 1 + 1 ≡ i = omega arith in
+        let next : suc (i - 1) ≡ i = omega arith in
+        let step = rw back at (least-step (counted polls set) (i - 1) (omega (arith, table-length 8 (λ i. if has? set (suc i) then getD polls i 0 else 0)))) in
+        step
+        ∙ ap (λ (x : ℕ). leastOf (x ∷ leastOf (drop i (counted polls set)) ∷ [])) (table-at 8 (λ i. if has? set (suc i) then getD polls i 0 else 0) (i - 1) 0 (omega arith))
+        ∙ ap (λ (k : ℕ). leastOf ((if has? set k then getD polls (i - 1) 0 else 0) ∷ leastOf (drop i (counted polls set)) ∷ [])) next
+        ∙ rw (own, from) refl
+
+    pub interval-yes : b ≡ true → {r : ℕ} → r ≡ leastOf (getD polls (i - 1) 0 ∷ l ∷ []) → r ≡ leastOf (drop (i - 1) (counted polls set))
+    interval-yes e q = q ∙ sym (stepped ∙ rw e refl)
+
+    pub interval-no : b ≡ false → l ≡ leastOf (drop (i - 1) (counted polls set))
+    unfolding keep
+    interval-no e = sym (stepped ∙ rw (e, from) (least-more 0 (drop i (counted polls set))) ∙ sym from)
+
+  pub interval-all : (i : ℕ) {l : ℕ} → i ≤ 0 → l ≡ leastOf (drop i (counted polls set)) → l ≡ intervalOf polls set
+  unfolding intervalOf counted
+  interval-all i h e = let z : i ≡ 0 = omega arith in rw z at e
+
+-- THE SET, of the places from i on
+module _ (polls : List ℕ) where
+  unfoldable pub asks : List Bool
+  asks = map (λ n. not (byNumber 0 polls n == 0)) numbers
+
+  pub set-none : 0 ≡ valued (drop 8 asks)
+  unfolding asks numbers valued
+  set-none = refl
+
+  eight : length asks ≡ 8
+  unfolding asks numbers
+  eight = refl
+
+  module _ (i : ℕ) {s : ℕ} (some : 0 < i) (few : i ≤ 8) (from : s ≡ valued (drop i asks)) where
+    ask-at : getD asks (i - 1) false ≡ not (getD polls (i - 1) 0 == 0)
+    unfolding asks numbers
+    ask-at =
+        let back : i ≡ suc (i - 1) = omega arith in
+        one-of (λ n. getD asks (n - 1) false ≡ not (byNumber 0 polls n == 0)) (unfold numbers Every in (refl, (refl, (refl, (refl, (refl, (refl, (refl, (refl, tt))))))))) i some few
+        ∙ ap (λ (n : ℕ). not (byNumber 0 polls n == 0)) back
+
+    pub set-small : s < 128
+    set-small = built-small asks i s some from eight
+
+    pub set-yes : (getD polls (i - 1) 0 ≡ 0 → ⊥) → s * 2 + 1 ≡ valued (drop (i - 1) asks)
+    set-yes h = built-yes asks i s some from (omega (arith, eight)) (ask-at ∙ ap not (ne-eqb (getD polls (i - 1) 0) 0 h))
+
+    pub set-no : getD polls (i - 1) 0 ≡ 0 → s * 2 ≡ valued (drop (i - 1) asks)
+    set-no h = built-no asks i s some from (omega (arith, eight)) (ask-at ∙ ap not (eq-eqb (getD polls (i - 1) 0) 0 h))
+
+  pub set-all : (i : ℕ) {s : ℕ} → i ≤ 0 → s ≡ valued (drop i asks) → s ≡ pollingSet polls
+  unfolding pollingSet setOf asks
+  set-all i h e = let z : i ≡ 0 = omega arith in rw z at e
+
+-- THERE IS AN INTERVAL exactly if one of the set requests one
+pub polled-by : (polls : List ℕ) (set : ℕ) → not (intervalOf polls set == 0) ≡ meets (pollingSet polls) set
+unfolding intervalOf table pollingSet numbers
+polled-by polls set =
+    least-there (map own numbers)
+    ∙ sym (map-some own (λ n. not (n == 0)) numbers)
+    ∙ some-each _ _ (λ k a b. go (has? set k) k ∙ ap (λ (x : Bool). x && has? set k) (sym (has-set (λ n. not (byNumber 0 polls n == 0)) k a b)))
+  where
+    own : ℕ → ℕ
+    own n = if has? set n then byNumber 0 polls n else 0
+
+    go : (b : Bool) (k : ℕ) → not ((if b then byNumber 0 polls k else 0) == 0) ≡ (not (byNumber 0 polls k == 0) && b)
+    go true k = sym (and-true (not (byNumber 0 polls k == 0)))
+    go false k = sym (and-false (not (byNumber 0 polls k == 0)))
+
+-- one that requests nothing turns nothing
+pub unasked : (polls : List ℕ) (set n : ℕ) (on : Bool) → byNumber 0 polls n ≡ 0 → intervalOf polls set ≡ intervalOf polls (switchedSet set n on)
+unfolding intervalOf
+unasked polls set n on none = ap leastOf (table-alike 8 _ _ each)
+  where
+    each : (i : ℕ) → i < 8 → (if has? set (suc i) then getD polls i 0 else 0) ≡ (if has? (switchedSet set n on) (suc i) then getD polls i 0 else 0)
+    each i h =
+        go (suc i == n) (has? set (suc i)) on refl
+        ∙ ap (λ (b : Bool). if b then getD polls i 0 else 0) (sym (has-set (λ k. if k == n then on else has? set k) (suc i) (omega arith) (omega arith)))
+      where
+        go : (b h o : Bool) → (suc i == n) ≡ b → (if h then getD polls i 0 else 0) ≡ (if (if b then o else h) then getD polls i 0 else 0)
+        go false h o e = refl
+        go true h o e =
+            let zero : getD polls i 0 ≡ 0 = ap (byNumber 0 polls) (eqb-true (suc i) n e) ∙ none in
+            rw zero (ways h o)
+          where
+            ways : (h o : Bool) → _≡_ {A = ℕ} (if h then 0 else 0) (if o then 0 else 0)
+            ways true true = refl
+            ways true false = refl
+            ways false true = refl
+            ways false false = refl
+
+-- no change of the interval leaves what is due
+pub after-same : (session interval off : Bool) {before after : ℕ} → before ≡ after → _≡_ {A = Polling} (record { interval = interval; off = off }) (pollingAfter session interval off before after)
+after-same true interval off {before} {after} e = rw (eq-eqb before after e) refl
+after-same false interval off e = refl
+
+-- what is due, by the interval before and after one applet was switched
+module _ (session interval off : Bool) (polls : List ℕ) (set n : ℕ) (on : Bool) where
+  pub after-switched
+      : {r : Polling} {before is after : ℕ}
+      → r ≡ pollingAfter session interval off before after
+      → before ≡ intervalOf polls set
+      → is ≡ switchedSet set n on
+      → after ≡ intervalOf polls is
+      → r ≡ pollingAfter session interval off (intervalOf polls set) (intervalOf polls (switchedSet set n on))
+  after-switched e b i a = e ∙ rw (b, a, i) refl

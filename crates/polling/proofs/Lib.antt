@@ -1,0 +1,5 @@
+-- Laws of polling.
+pub mod Durations
+pub mod Intervals
+pub mod ByApplets
+pub mod Quiet

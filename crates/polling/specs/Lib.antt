@@ -1,0 +1,2 @@
+-- The requests for poll intervals as a table by applet number.
+pub mod Polls
