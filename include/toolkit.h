@@ -165,24 +165,24 @@ struct toolkit_desk {
 TOOLKIT_LAYOUT(struct toolkit_desk, 59, 1);
 
 struct toolkit_card {
+    uint16_t polls[TOOLKIT_APPLETS];        /* by number, the poll interval that it requests, in seconds; 0: none */
     uint8_t selectable;                     /* set of those that are not locked */
     uint8_t registered[TOOLKIT_EVENTS];     /* for each event, in the order of document 01, the set of those registered; none for call control */
     uint8_t control;                        /* who owns call control; 0: nobody */
     uint8_t made[TOOLKIT_APPLETS];          /* by number, how many of its entries are rows */
     struct toolkit_bank bank;
     struct toolkit_roll roll;
-    uint16_t polls[TOOLKIT_APPLETS];        /* by number, the poll interval that it requests, in seconds; 0: none */
     struct toolkit_rows rows;
     struct toolkit_desk desk;
 };
 TOOLKIT_LAYOUT(struct toolkit_card, 468, 2);
-TOOLKIT_FACT(offsetof(struct toolkit_card, selectable) == 0);
-TOOLKIT_FACT(offsetof(struct toolkit_card, registered) == 1);
-TOOLKIT_FACT(offsetof(struct toolkit_card, control) == 21);
-TOOLKIT_FACT(offsetof(struct toolkit_card, made) == 22);
-TOOLKIT_FACT(offsetof(struct toolkit_card, bank) == 30);
-TOOLKIT_FACT(offsetof(struct toolkit_card, roll) == 38);
-TOOLKIT_FACT(offsetof(struct toolkit_card, polls) == 152);
+TOOLKIT_FACT(offsetof(struct toolkit_card, polls) == 0);
+TOOLKIT_FACT(offsetof(struct toolkit_card, selectable) == 16);
+TOOLKIT_FACT(offsetof(struct toolkit_card, registered) == 17);
+TOOLKIT_FACT(offsetof(struct toolkit_card, control) == 37);
+TOOLKIT_FACT(offsetof(struct toolkit_card, made) == 38);
+TOOLKIT_FACT(offsetof(struct toolkit_card, bank) == 46);
+TOOLKIT_FACT(offsetof(struct toolkit_card, roll) == 54);
 TOOLKIT_FACT(offsetof(struct toolkit_card, rows) == 168);
 TOOLKIT_FACT(offsetof(struct toolkit_card, desk) == 409);
 

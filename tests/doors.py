@@ -76,7 +76,7 @@ def registered_bytes(applets):
 
 
 def card_bytes(card):
-    """The 468 bytes of this card: sets and tables by number, timers, the roll, poll requests, the rows, the terminal's side."""
+    """The 468 bytes of this card: poll requests, sets and tables by number, timers, the roll, the rows, the terminal's side."""
     applets = card.applets
     selectable = number_set(number for number, applet in applets.items() if not applet.locked)
     made = bytes(sum(row.owner == number for row in card.rows) for number in range(1, 9))
@@ -85,7 +85,7 @@ def card_bytes(card):
     rows = padded([bytes([row.identifier, row.owner, row.help, row.enabled]) + text(row.text, 15) for row in card.rows], 12, 20)
     due = bytes([card.menu_due, card.events_due, card.interval_due, card.off_due])
     desk = due + bytes([card.session, card.outstanding, len(card.title)]) + card.title.ljust(20, b"\0") + card.terminal_profile
-    return (bytes([selectable]) + registered_bytes(applets) + bytes(control) + made + bytes(card.owners) + roll_bytes(applets) + polls
+    return (polls + bytes([selectable]) + registered_bytes(applets) + bytes(control) + made + bytes(card.owners) + roll_bytes(applets)
             + rows + desk)
 
 

@@ -6,13 +6,11 @@ use mathlib.Core.Path.{_≡_, refl, sym, ap, ap₂, _∙_}
 use mathlib.Core.Bool.{Bool, true, false, not, Bool·beq, _&&_}
 use mathlib.Core.List.{List, map}
 use lib.ListN.{getD}
-use borrow.Author.Tests.{eq-eqb}
-use Rattle.lists.specs.Tests.{if_then_else_, _==_}
+use Rattle.lists.specs.Tests.{if_then_else_}
 use Rattle.lists.specs.Lists.{Every}
 use Rattle.lists.specs.Tables.{table}
 use Rattle.lists.proofs.Every.{every-so}
 use Rattle.sets.specs.Sets.{has?, single, meets, setWithout, switchedSet}
-use Rattle.sets.proofs.Bits.{has-set}
 use Rattle.sets.proofs.LeftOut.{turned-without, meets-without}
 use Rattle.rules.specs.declared.Roll.{Roll}
 use Rattle.rules.specs.declared.Rows.{Rows}
@@ -32,14 +30,13 @@ use Rattle.runs.proofs.Altered.{admin-sound}
 use Rattle.runs.proofs.Looked.{not-absent}
 use Rattle.applets.specs.ByNumber.{rollOf, selectableSet, registeredSet, madeTable, pollTable, tableWith}
 use Rattle.applets.specs.Rolls.{rollWithout}
-use Rattle.lists.proofs.Tables.{table-length}
 use Rattle.applets.proofs.Removed.{registered-less, all-less, selectable-less, made-less, poll-less, roll-less}
 use Rattle.menu_shown.specs.Chosen.{hasEnabledRow}
 use Rattle.menu_shown.proofs.MenuByApplets.{delete-menu}
 use Rattle.events_shown.specs.Turns.{anyCode, codeTurns}
 use Rattle.polling.specs.declared.Polling.{Polling}
 use Rattle.polling.specs.Polls.{intervalOf, pollingAfter}
-use Rattle.polling.proofs.ByApplets.{unset-request}
+use Rattle.polling.proofs.OneRequest.{left-out, unset-request}
 use Rattle.card.specs.declared.Card.{Card}
 use Rattle.card.specs.declared.Reply.{Reply}
 use Rattle.card.specs.View.{view, stored, Left}
@@ -48,7 +45,7 @@ use Rattle.card.proofs.Left.{left-sound, left-bounds}
 use Rattle.card.proofs.Marks.{withDue, MenuMark, EventsMark, PollingMarks, all-desk}
 use Rattle.card.proofs.Polled.{marks-then}
 use Rattle.card.proofs.Replied.{after-by, plain-reply, refused-stays, card-is, roll-form, selectable-form, registered-form, made-form, polls-form}
-use Rattle.card.proofs.Present.{present-by, gone-by, low-is, high-is, selectable-there}
+use Rattle.card.proofs.Present.{present-by, gone-by, low-is, selectable-there}
 use Rattle.card.proofs.Listeners.{set-is, codes-by}
 
 module _ (c : Card) (left : Left c) (n : ℕ) (there : has? (c .roll .present) n ≡ true) where
@@ -105,16 +102,13 @@ module _ (c : Card) (left : Left c) (n : ℕ) (there : has? (c .roll .present) n
   polls-next = ap (λ (k : List ℕ). tableWith k n 0) (polls-form c left) ∙ poll-less (t .applets) n
 
   -- the marks
-  gone : has? is n ≡ false
-  gone = has-set (λ k. if k == n then false else has? (c .selectable) k) n (low-is c left n there) (high-is c left n there) ∙ rw (eq-eqb n n refl) refl
-
   polling-differs
       : {p : Polling}
       → p ≡ pollingAfter (c .desk .session) (c .desk .due .interval) (c .desk .due .off) (intervalOf (c .polls) (c .selectable)) (intervalOf (c .polls) is)
       → PollingMarks (c .desk) t u p
   polling-differs e =
       marks-then c left u (admin-sound m (delete n) none-refused sound) bounds-same polls-next selectable-next
-      (e ∙ ap (pollingAfter (c .desk .session) (c .desk .due .interval) (c .desk .due .off) (intervalOf (c .polls) (c .selectable))) (sym (unset-request (c .polls) is n 0 gone)))
+      (e ∙ ap (pollingAfter (c .desk .session) (c .desk .due .interval) (c .desk .due .off) (intervalOf (c .polls) (c .selectable))) (sym (unset-request (c .polls) is n 0 (left-out (c .selectable) n))))
 
   menu-differs : (true && (not (Bool·beq (has? (c .selectable) n) false) && hasEnabledRow n (viewRows (c .rows)))) ≡ menuChanges t u
   unfolding view

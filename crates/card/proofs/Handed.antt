@@ -3,8 +3,8 @@
 use Prim.Native.Nat.{ℕ, zero, suc, _≤_}
 use native.Mathlib.Omega.{arith}
 use mathlib.Core.Path.{_≡_, refl, sym, ap, ap₂, _∙_}
-use mathlib.Core.Bool.{Bool, true, false, not, _&&_, _||_}
-use mathlib.Core.List.{List, [], _∷_, _++_}
+use mathlib.Core.Bool.{Bool, true, false, _||_}
+use mathlib.Core.List.{List, [], _∷_}
 use lib.ListN.{length, take, length-take}
 use borrow.Author.Tests.{ne-eqb, eqb-true}
 use Rattle.lists.specs.Tests.{if_then_else_, _==_, _<?_}

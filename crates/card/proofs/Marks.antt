@@ -1,6 +1,6 @@
 -- The desk that a call leaves, by what it turns of what is shown: nothing, the menu, the event list, the system interval, or all. Every
 -- other mark stays. Assumes nothing.
-use mathlib.Core.Path.{_≡_, refl, sym, ap₂}
+use mathlib.Core.Path.{_≡_, refl}
 use mathlib.Core.Bool.{Bool, true, false, not, _&&_, _||_}
 use Rattle.lists.specs.Tests.{if_then_else_, _==_}
 use Rattle.rules.specs.declared.Desk as held

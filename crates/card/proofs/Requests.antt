@@ -5,7 +5,6 @@ use mathlib.Core.Path.{_≡_, refl, sym, ap, _∙_}
 use mathlib.Core.Bool.{Bool, true, not}
 use mathlib.Core.List.{List, [], _∷_}
 use lib.IntN.{ℤ}
-use Rattle.lists.specs.Tests.{if_then_else_}
 use Rattle.lists.specs.Lists.{change, Every}
 use Rattle.lists.proofs.Tables.{table-alike}
 use Rattle.sets.specs.Sets.{has?}
@@ -107,20 +106,18 @@ module _ (c : Card) (left : Left c) (n : ℕ) (d : ℤ) {there : Bool} (found : 
 
       -- A REQUEST THAT IS TAKEN, by what the parts of the code say
       pub takes
-          : {k : Card} {seconds before after : ℕ} {next : List ℕ} {p : Polling} {a : Answer}
+          : {k : Card} {seconds : ℕ} {next : List ℕ} {p : Polling} {a : Answer}
           → seconds ≡ secondsOf d
           → next ≡ tableWith (c .polls) n seconds
-          → before ≡ intervalOf (c .polls) (c .selectable)
-          → after ≡ intervalOf next (c .selectable)
-          → p ≡ pollingAfter (c .desk .session) (c .desk .due .interval) (c .desk .due .off) before after
+          → p ≡ pollingAfter (c .desk .session) (c .desk .due .interval) (c .desk .due .off) (intervalOf (c .polls) (c .selectable)) (intervalOf (tableWith (c .polls) n seconds) (c .selectable))
           → k ≡ withRequests c next p
           → a ≡ storedAnswer (refusedWith r)
           → Says k a
       unfolding tablesAfter eventTables deskAfter
-      takes so e b f p is says =
+      takes so e p is says =
           plain-reply m call refusal-is plain
           (is
-          ∙ requested-card (e ∙ ap (tableWith (c .polls) n) so) (p ∙ rw (b, f) refl)
+          ∙ requested-card (e ∙ ap (tableWith (c .polls) n) so) (p ∙ rw e refl)
           ∙ ap stored (sym (after-by m call refusal-is refl (ap (tablesBy m call) z))))
           says
 

@@ -1,9 +1,8 @@
 -- Whom a STATUS calls; it leaves the card.
 -- Assumes nothing.
 use Prim.Native.Nat.{ℕ, _≤_}
-use mathlib.Core.Path.{_≡_, refl, sym, ap, _∙_}
-use mathlib.Core.Bool.{Bool, not}
-use mathlib.Core.List.{List}
+use mathlib.Core.Path.{_≡_, refl, ap, _∙_}
+use mathlib.Core.Bool.{not}
 use lib.ListN.{take}
 use Rattle.lists.specs.Tests.{_==_}
 use Rattle.lists.specs.Lists.{keep}
@@ -11,7 +10,7 @@ use Rattle.sets.specs.Sets.{has?}
 use Rattle.sets.proofs.Bits.{has-set}
 use Rattle.rules.specs.declared.Answer.{Answer}
 use Rattle.rules.specs.declared.Marks.{Marks}
-use Rattle.rules.specs.Holds.{Applet, Tables, Model}
+use Rattle.rules.specs.Holds.{Model}
 use Rattle.rules.specs.Held.{viewDesk}
 use Rattle.rules.specs.Applets.{applet}
 use Rattle.rules.specs.Arrivals.{called, wants, status, otherMarks}
@@ -19,7 +18,7 @@ use Rattle.rules.specs.Calls.{Call, arrival, status as statusCall, calling}
 use Rattle.rules.specs.Refusals.{lines, arrivalLines, firstHolding, refusal}
 use Rattle.rules.specs.Step.{step, tablesAfter, deskAfter, arrivalDesk, answer, arrivalAnswer}
 use Rattle.applets.specs.declared.Callees.{Callees}
-use Rattle.applets.specs.ByNumber.{at, byNumber, pollTable}
+use Rattle.applets.specs.ByNumber.{at, byNumber}
 use Rattle.applets.specs.Rolls.{calleesOf}
 use Rattle.arrivals.specs.Whom.{IsFor, calledSet}
 use Rattle.arrivals.specs.Answers.{answering}

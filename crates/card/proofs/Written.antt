@@ -1,12 +1,12 @@
 -- What a hand-out writes: the menu, the event list, or a command for polling, and never two of them.
 -- Assumes nothing.
-use Prim.Native.Nat.{ℕ, _+_, _/_, _≤_, _<_}
+use Prim.Native.Nat.{ℕ, _+_, _≤_, _<_}
 use native.Mathlib.Omega.{arith}
 use mathlib.Core.Path.{_≡_, refl, sym, ap, _∙_}
 use mathlib.Core.Bool.{Bool, true, false, not, _&&_}
 use mathlib.Core.List.{List, [], _∷_, _++_}
 use lib.ListN.{length, take, drop, length-append}
-use Rattle.lists.specs.Tests.{if_then_else_, _≤?_}
+use Rattle.lists.specs.Tests.{if_then_else_}
 use Rattle.lists.specs.Wrote.{Wrote, putAt}
 use Rattle.lists.proofs.Decided.{clashing}
 use Rattle.lists.proofs.Padded.{length-padded, take-padded}

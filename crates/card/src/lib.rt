@@ -23,13 +23,13 @@ use rules::Rows;
 
 #[repr(C)]
 pub struct Card {
+    pub polls: [u16; Roll::APPLETS],
     pub selectable: u8,
     pub registered: [u8; Kind::EVENTS],
     pub control: u8,
     pub made: [u8; Roll::APPLETS],
     pub bank: Bank,
     pub roll: Roll,
-    pub polls: [u16; Roll::APPLETS],
     pub rows: Rows,
     pub desk: Desk,
 }

@@ -19,14 +19,14 @@ impl Card {
             let polls = left.polls;
             let seconds = polling::seconds_of(duration);
             let next = polling::poll_with(polls, applet, seconds);
-            let before = polling::system_interval(polls, left.selectable);
-            let after = polling::system_interval(next, left.selectable);
-            let polling = polling::due_after(
+            let polling = polling::due_requested(
                 left.desk.session,
                 left.desk.due.interval,
                 left.desk.due.off,
-                before,
-                after,
+                polls,
+                left.selectable,
+                applet,
+                seconds,
             );
             left.polls = next;
             left.desk.due.interval = polling.interval;

@@ -38,7 +38,7 @@ handed-out t d = go (dueMatters (d .due))
     go [] = refl
     go (x ∷ l) = rw (command-some t (d .title) x) refl
 
-session-after : (m : Model) (h : History) (c : Call) → AgreeDesk (m .desk) h
+pub session-after : (m : Model) (h : History) (c : Call) → AgreeDesk (m .desk) h
     → deskAfter m c .session ≡ inSession (did c (answer m c) ∷ h)
 unfolding deskAfter arrivalDesk proactiveDesk withProfile withHandedOut withFirst inSession some? reading
 session-after m h (admin c) g = g .session

@@ -20,6 +20,7 @@ pub mod Handing
 pub mod Shown
 pub mod HandOuts
 pub mod Sent
+pub mod Marking
 pub mod Screen
 pub mod DoneAlready
 pub mod LockUnseen

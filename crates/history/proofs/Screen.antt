@@ -32,7 +32,8 @@ use Rattle.history.proofs.Stands.{shown-read}
 use Rattle.history.proofs.Types.{codes-back}
 use Rattle.history.proofs.Polling.{PollingRight, pollingFor, never-both}
 use Rattle.history.proofs.Handing.{right}
-use Rattle.history.proofs.Shown.{rows-shown, rows-wanted, codes-shown, interval-shown}
+use Rattle.history.proofs.Shown.{rows-shown, rows-wanted, codes-shown}
+use Rattle.history.proofs.Marking.{interval-is-named, begins, turns}
 use Rattle.history.proofs.HandOuts.{taken, handed-due, nothing-due, due-left, mended}
 use Rattle.history.proofs.Sent.{sends-no-menu, sends-no-list, sends-no-polling}
 
@@ -66,9 +67,6 @@ module _ (title : List ℕ) (calls : List Call) where
   card-codes : shownEvents (m .tables) ≡ codesNamed h
   card-codes = codes-shown (m .tables) h (sound title calls) (agree title calls .tables) (from-1-to-8 title calls)
 
-  card-interval : interval (m .tables) ≡ intervalNamed h
-  card-interval = interval-shown (m .tables) h (sound title calls) (agree title calls .tables) (from-1-to-8 title calls)
-
   menu-right : inSession h ≡ true → m .desk .due .menu ≡ false → MenuRight title l m h
   unfolding screen menuOf
   menu-right begun current =
@@ -98,7 +96,7 @@ module _ (title : List ℕ) (calls : List Call) where
 
   -- what is known of polling, of the interval that the history names
   polling-kept : PollingRight (intervalNamed h) (m .desk .session) (m .desk .due .interval) (m .desk .due .off) (handedSince l)
-  polling-kept = subst (λ (n : ℕ). PollingRight n (m .desk .session) (m .desk .due .interval) (m .desk .due .off) (handedSince l)) card-interval (right title calls .polling)
+  polling-kept = subst (λ (n : ℕ). PollingRight n (m .desk .session) (m .desk .due .interval) (m .desk .due .off) (handedSince l)) (interval-is-named title calls) (right title calls .polling)
 
   polling-right : inSession h ≡ true → m .desk .due .interval ≡ false → m .desk .due .off ≡ false → lastPolling (handedSince l) ≡ pollingNamed h
   unfolding pollingFor pollingNamed
@@ -127,7 +125,7 @@ module _ (title : List ℕ) (calls : List Call) where
   unfolding commandFor wanted
   card-wants menu = ap menuBytes card-shows
   card-wants eventList = ap eventBytes card-codes
-  card-wants pollInterval = ap intervalBytes card-interval
+  card-wants pollInterval = ap intervalBytes (interval-is-named title calls)
   card-wants pollingOff = refl
 
   hands-out : (buffer : List ℕ) → step m (systemCommand buffer) .answer .refusal ≡ 0 → HandsOut title m h buffer
@@ -166,6 +164,8 @@ module _ (title : List ℕ) (calls : List Call) where
         never-both = interval-and-off-never-both-due;
         interval-due = interval-due;
         off-due = off-due;
+        begins = begins title calls;
+        turns = turns title calls;
         sent = sends-neither;
         read-back = sym (ap (λ (x : Menu). menuReader document (menuBytes x)) card-shows) ∙ card-reads;
         hand-out = hands-out;

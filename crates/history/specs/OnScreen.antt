@@ -1,20 +1,20 @@
 -- THE SCREEN IS RIGHT: what is promised of calls as they were seen, the card that they have left, and its history.
 use Prim.Native.Nat.{ℕ, _≤_}
 use mathlib.Core.Path.{_≡_}
-use mathlib.Core.Bool.{Bool, true, false, _&&_}
+use mathlib.Core.Bool.{Bool, true, false, not, _&&_}
 use mathlib.Core.List.{List, [], _∷_, map}
 use lib.ListN.{length}
-use Rattle.lists.specs.Tests.{if_then_else_}
+use Rattle.lists.specs.Tests.{if_then_else_, _==_}
 use Rattle.lists.specs.Lists.{Every, some?, keep, count}
 use Rattle.rules.specs.declared.Due.{Due}
 use Rattle.rules.specs.Holds.{Row, Model, document, nothingDue}
 use Rattle.rules.specs.Commands.{Item, menuOf, menuBytes, eventBytes, intervalBytes, offBytes, isMenu}
 use Rattle.rules.specs.Desk as desk
 use Rattle.rules.specs.Desk.{Matter, dueMatters}
-use Rattle.rules.specs.Calls.{proactive, systemCommand, send, response}
+use Rattle.rules.specs.Calls.{Call, arrival, proactive, systemCommand, profile, send, response}
 use Rattle.rules.specs.Step.{step}
 use Rattle.rules.specs.Beside.{menuReader}
-use Rattle.history.specs.Histories.{History}
+use Rattle.history.specs.Histories.{did, History}
 use Rattle.history.specs.Named.{rowsNamed, inSession, isOutstanding}
 use Rattle.history.specs.Handed.{Seen, seen, titleOf, handed, handedSince, lastMenu, screen, isEventList, codesHanded, isPolling, lastPolling, isShown, codesNamed, intervalNamed, pollingNamed}
 
@@ -41,6 +41,10 @@ wanted asked rows h desk.menu = menuBytes (menuOf (titleOf asked) (keep (isShown
 wanted asked rows h desk.eventList = eventBytes (codesNamed h)
 wanted asked rows h desk.pollInterval = intervalBytes (intervalNamed h)
 wanted asked rows h desk.pollingOff = offBytes
+
+-- of polling: whether POLL INTERVAL is due, and whether POLLING OFF is
+abbrev pub OfPolling : Due → (interval off : Bool) → Type 0
+OfPolling d interval off = (d .interval ≡ interval) × (d .off ≡ off)
 
 -- what a hand-out leaves due: the menu's mark is cleared, or else that of the event list, or else that of polling
 abbrev pub leftDue : Due → Due
@@ -86,6 +90,13 @@ pub record ScreenRight (asked : List ℕ) (l : List Seen) (m : Model) (h : Histo
   pub never-both : (m .desk .due .interval && m .desk .due .off) ≡ false
   pub interval-due : m .desk .due .interval ≡ true → 1 ≤ intervalNamed h
   pub off-due : m .desk .due .off ≡ true → intervalNamed h ≡ 0
+  -- A SESSION BEGINS with POLL INTERVAL due exactly if the history names an interval, and POLLING OFF not ..
+  pub begins : (bytes : List ℕ) → step m (arrival (profile bytes)) .answer .refusal ≡ 0
+      → OfPolling (step m (arrival (profile bytes)) .after .desk .due) (not (intervalNamed h == 0)) false
+  -- .. and in it a call that changes the interval marks POLL INTERVAL due if there is one now, else POLLING OFF, and the other not.
+  pub turns : (x : Call) → inSession h ≡ true → step m x .answer .refusal ≡ 0
+      → (intervalNamed h ≡ intervalNamed (did x (step m x .answer) ∷ h) → ⊥)
+      → OfPolling (step m x .after .desk .due) (not (intervalNamed (did x (step m x .answer) ∷ h) == 0)) (intervalNamed (did x (step m x .answer) ∷ h) == 0)
   -- NO APPLET CHANGES THEM: what an accepted send gives the terminal is neither a menu nor an event list nor a command for polling.
   pub sent : (n : ℕ) (bytes : List ℕ) → step m (proactive (send n bytes)) .answer .refusal ≡ 0
       → (isMenu document bytes ≡ false) × (isEventList bytes ≡ false) × (isPolling bytes ≡ false)

@@ -1,17 +1,16 @@
--- The smallest of the numbers that are not 0: whether there is one, one number more, and those that count, of elements.
+-- The smallest of the numbers that are not 0: one number more, in front or in a place, and those that count, of elements.
 -- Assumes nothing.
-use Prim.Native.Nat.{ℕ, _+_, _<_}
+use Prim.Native.Nat.{ℕ, zero, suc, _+_, _<_}
 use native.Mathlib.Omega.{arith}
 use mathlib.Core.Path.{_≡_, refl, sym, ap, _∙_}
 use mathlib.Core.Bool.{Bool, true, false, not, _&&_}
 use mathlib.Core.List.{List, [], _∷_, map}
-use lib.ListN.{length, drop, getD}
+use lib.ListN.{length, drop, getD, set}
 use borrow.Author.Tests.{eq-eqb, ne-eqb}
 use Rattle.lists.specs.Tests.{if_then_else_, _==_}
-use Rattle.lists.specs.Lists.{Every, some?, keep, empty?, smallest}
+use Rattle.lists.specs.Lists.{Every, keep, smallest}
 use Rattle.lists.proofs.Decided.{clashing}
 use Rattle.lists.proofs.Every.{every-so, every-all, every-keep}
-use Rattle.lists.proofs.Keep.{some-keep}
 use Rattle.lists.proofs.Walk.{drop-step}
 
 abbrev counts : ℕ → Bool
@@ -30,15 +29,6 @@ smallest-counts x (y ∷ l) a = let r = smallest-counts y l (a .1) in let s = no
 
 kept-count : (l : List ℕ) → Every (λ n. counts n ≡ true) (keep counts l)
 kept-count l = every-so _ _ (λ n q. q .1) (keep counts l) (every-keep (λ n. Unit) counts l (every-all _ (λ n. tt) l))
-
--- there is one
-pub least-there : (l : List ℕ) → not (leastOf l == 0) ≡ some? (λ n. not (n == 0)) l
-unfolding smallest empty?
-least-there l = go (keep counts l) (kept-count l) ∙ sym (some-keep counts l)
-  where
-    go : (k : List ℕ) → Every (λ n. counts n ≡ true) k → not (smallest k == 0) ≡ not (empty? k)
-    go [] a = refl
-    go (x ∷ k) a = ap not (ne-eqb (smallest (x ∷ k)) 0 (smallest-counts x k a))
 
 -- one number more is compared with the smallest of the others
 pub least-more : (x : ℕ) (l : List ℕ) → leastOf (x ∷ leastOf l ∷ []) ≡ leastOf (x ∷ l)
@@ -68,3 +58,27 @@ kept-given p f (x ∷ l) = go (p x) (f x == 0) refl (kept-given p f l)
     go true true e r = rw e r
     go true false e r = rw e (ap (λ (k : List ℕ). f x ∷ k) r)
     go false z e r = r
+
+-- a number in a place that counted nothing counts as one more
+module _ (v : ℕ) where
+  least-swap : (x : ℕ) (l : List ℕ) → leastOf (x ∷ v ∷ l) ≡ leastOf (v ∷ x ∷ l)
+  unfolding keep smallest
+  least-swap x l = go (counts x) (counts v) (keep counts l)
+    where
+      go : (a b : Bool) (k : List ℕ)
+          → smallest (if a then x ∷ (if b then v ∷ k else k) else if b then v ∷ k else k) ≡ smallest (if b then v ∷ (if a then x ∷ k else k) else if a then x ∷ k else k)
+      go true true [] = omega arith
+      go true true (y ∷ k) = omega arith
+      go true false k = refl
+      go false true k = refl
+      go false false k = refl
+
+  pub least-set : (l : List ℕ) (i : ℕ) → i < length l → getD l i 0 ≡ 0 → leastOf (set l i v) ≡ leastOf (v ∷ l)
+  unfolding keep
+  least-set [] i h e = absurd (omega arith)
+  least-set (x ∷ l) zero h e = rw e refl
+  least-set (x ∷ l) (suc i) h e =
+      sym (least-more x (set l i v))
+      ∙ ap (λ (n : ℕ). leastOf (x ∷ n ∷ [])) (least-set l i (omega arith) e)
+      ∙ least-more x (v ∷ l)
+      ∙ least-swap x l

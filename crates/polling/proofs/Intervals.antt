@@ -1,21 +1,19 @@
--- The system interval and the set of those who request one, from the last place to the first; whether there is one, and what leaves it.
+-- The system interval and the set of those who request one, from the last place to the first; and what leaves the marks.
 -- Assumes nothing.
 use Prim.Native.Nat.{ℕ, suc, _+_, _-_, _*_, _≤_, _<_}
 use native.Mathlib.Omega.{arith}
 use mathlib.Core.Path.{_≡_, refl, sym, ap, _∙_}
-use mathlib.Core.Bool.{Bool, true, false, not, _&&_}
+use mathlib.Core.Bool.{Bool, true, false, not}
 use mathlib.Core.List.{List, [], _∷_, map}
 use lib.ListN.{length, drop, getD}
-use borrow.Author.Tests.{eqb-true, eq-eqb, ne-eqb}
+use borrow.Author.Tests.{eq-eqb, ne-eqb}
 use Rattle.lists.specs.Tests.{if_then_else_, _==_}
 use Rattle.lists.specs.Lists.{Every, keep, smallest}
 use Rattle.lists.specs.Tables.{table}
-use Rattle.lists.proofs.Least.{leastOf, least-there, least-more, least-step}
-use Rattle.lists.proofs.Mapped.{map-some}
-use Rattle.lists.proofs.Tables.{table-at, table-alike, table-length}
-use Rattle.lists.proofs.Truth.{and-true, and-false}
-use Rattle.sets.specs.Sets.{numbers, has?, setOf, valued, meets, switchedSet}
-use Rattle.sets.proofs.Bits.{one-of, has-set, some-each}
+use Rattle.lists.proofs.Least.{leastOf, least-more, least-step}
+use Rattle.lists.proofs.Tables.{table-at, table-length}
+use Rattle.sets.specs.Sets.{numbers, has?, setOf, valued}
+use Rattle.sets.proofs.Bits.{one-of}
 use Rattle.sets.proofs.Built.{built-small, built-yes, built-no}
 use Rattle.applets.specs.ByNumber.{byNumber}
 use Rattle.polling.specs.declared.Polling.{Polling}
@@ -88,55 +86,7 @@ module _ (polls : List ℕ) where
   unfolding pollingSet setOf asks
   set-all i h e = let z : i ≡ 0 = omega arith in rw z at e
 
--- THERE IS AN INTERVAL exactly if one of the set requests one
-pub polled-by : (polls : List ℕ) (set : ℕ) → not (intervalOf polls set == 0) ≡ meets (pollingSet polls) set
-unfolding intervalOf table pollingSet numbers
-polled-by polls set =
-    least-there (map own numbers)
-    ∙ sym (map-some own (λ n. not (n == 0)) numbers)
-    ∙ some-each _ _ (λ k a b. go (has? set k) k ∙ ap (λ (x : Bool). x && has? set k) (sym (has-set (λ n. not (byNumber 0 polls n == 0)) k a b)))
-  where
-    own : ℕ → ℕ
-    own n = if has? set n then byNumber 0 polls n else 0
-
-    go : (b : Bool) (k : ℕ) → not ((if b then byNumber 0 polls k else 0) == 0) ≡ (not (byNumber 0 polls k == 0) && b)
-    go true k = sym (and-true (not (byNumber 0 polls k == 0)))
-    go false k = sym (and-false (not (byNumber 0 polls k == 0)))
-
--- one that requests nothing turns nothing
-pub unasked : (polls : List ℕ) (set n : ℕ) (on : Bool) → byNumber 0 polls n ≡ 0 → intervalOf polls set ≡ intervalOf polls (switchedSet set n on)
-unfolding intervalOf
-unasked polls set n on none = ap leastOf (table-alike 8 _ _ each)
-  where
-    each : (i : ℕ) → i < 8 → (if has? set (suc i) then getD polls i 0 else 0) ≡ (if has? (switchedSet set n on) (suc i) then getD polls i 0 else 0)
-    each i h =
-        go (suc i == n) (has? set (suc i)) on refl
-        ∙ ap (λ (b : Bool). if b then getD polls i 0 else 0) (sym (has-set (λ k. if k == n then on else has? set k) (suc i) (omega arith) (omega arith)))
-      where
-        go : (b h o : Bool) → (suc i == n) ≡ b → (if h then getD polls i 0 else 0) ≡ (if (if b then o else h) then getD polls i 0 else 0)
-        go false h o e = refl
-        go true h o e =
-            let zero : getD polls i 0 ≡ 0 = ap (byNumber 0 polls) (eqb-true (suc i) n e) ∙ none in
-            rw zero (ways h o)
-          where
-            ways : (h o : Bool) → _≡_ {A = ℕ} (if h then 0 else 0) (if o then 0 else 0)
-            ways true true = refl
-            ways true false = refl
-            ways false true = refl
-            ways false false = refl
-
 -- no change of the interval leaves what is due
 pub after-same : (session interval off : Bool) {before after : ℕ} → before ≡ after → _≡_ {A = Polling} (record { interval = interval; off = off }) (pollingAfter session interval off before after)
 after-same true interval off {before} {after} e = rw (eq-eqb before after e) refl
 after-same false interval off e = refl
-
--- what is due, by the interval before and after one applet was switched
-module _ (session interval off : Bool) (polls : List ℕ) (set n : ℕ) (on : Bool) where
-  pub after-switched
-      : {r : Polling} {before is after : ℕ}
-      → r ≡ pollingAfter session interval off before after
-      → before ≡ intervalOf polls set
-      → is ≡ switchedSet set n on
-      → after ≡ intervalOf polls is
-      → r ≡ pollingAfter session interval off (intervalOf polls set) (intervalOf polls (switchedSet set n on))
-  after-switched e b i a = e ∙ rw (b, a, i) refl

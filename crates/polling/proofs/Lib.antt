@@ -1,5 +1,6 @@
 -- Laws of polling.
 pub mod Durations
 pub mod Intervals
+pub mod OneRequest
 pub mod ByApplets
 pub mod Quiet

@@ -2,14 +2,12 @@
 // What they mean stands in specs/Polls.antt.
 use rules::Roll;
 ghost use mathlib.Core.Path.{_≡_};
-ghost use mathlib.Core.Bool.{not};
-ghost use mathlib.Core.List.{[], _∷_};
-ghost use Rattle.lists.specs.Tests.{_==_};
-ghost use Rattle.lists.specs.Lists.{keep, smallest};
+ghost use mathlib.Core.Bool.{not, false};
+ghost use Rattle.lists.specs.Tests.{if_then_else_, _==_};
 ghost use Rattle.sets.specs.Sets.{switchedSet};
 ghost use Rattle.rules.specs.Applets.{secondsOf};
 ghost use Rattle.applets.specs.ByNumber.{byNumber, tableWith};
-ghost use Rattle.polling.specs.Polls.{pollingSet, intervalOf, pollingAfter};
+ghost use Rattle.polling.specs.Polls.{pollingSet, shorterOf, intervalOf, pollingAfter};
 
 // Which of POLL INTERVAL and POLLING OFF is due.
 pub struct Polling {
@@ -73,7 +71,7 @@ pub fn polling_set(polls: [u16; Roll::APPLETS]) -> u8
 
 // Of two intervals the shorter; 0 is none.
 fn shorter(one: u16, other: u16) -> u16
-    ensures { λ r. ⌜ r ≡ smallest (keep (λ s. not (s == 0)) (one ∷ other ∷ [])) ⌝ }
+    ensures { λ r. ⌜ r ≡ shorterOf one other ⌝ }
 {
     if one == 0 {
         return other;
@@ -103,16 +101,16 @@ pub fn system_interval(polls: [u16; Roll::APPLETS], set: u8) -> u16
     least
 }
 
-// Whether there is a system interval: one of those of the set requests one.
+// Whether there is a system interval.
 pub fn any_polled(polls: [u16; Roll::APPLETS], set: u8) -> bool
     ensures { λ r. ⌜ r ≡ not (intervalOf polls set == 0) ⌝ }
 {
-    let whom = polling_set(polls);
-    sets::meet(whom, set)
+    let seconds = system_interval(polls, set);
+    seconds != 0
 }
 
 // What of polling is due after the interval turned, or did not.
-pub fn due_after(session: bool, interval: bool, off: bool, before: u16, after: u16) -> Polling
+fn due_after(session: bool, interval: bool, off: bool, before: u16, after: u16) -> Polling
     ensures { λ r. ⌜ r ≡ pollingAfter session interval off before after ⌝ }
 {
     if session {
@@ -126,7 +124,40 @@ pub fn due_after(session: bool, interval: bool, off: bool, before: u16, after: u
     Polling { interval, off }
 }
 
-// What of polling is due after an applet became selectable, or locked; one that requests nothing turns nothing.
+// What counts of a request.
+fn counted(counts: bool, seconds: u16) -> u16
+    ensures { λ r. ⌜ r ≡ (if counts then seconds else 0) ⌝ }
+{
+    if counts {
+        return seconds;
+    }
+    0
+}
+
+// What of polling is due after what counts of one applet's request turned, or did not.
+fn due_turned(
+    session: bool,
+    interval: bool,
+    off: bool,
+    polls: [u16; Roll::APPLETS],
+    set: u8,
+    applet: u8,
+    before: u16,
+    after: u16,
+) -> Polling
+    ensures { λ r. ⌜ r ≡ pollingAfter session interval off (shorterOf before (intervalOf polls (switchedSet set applet false))) (shorterOf after (intervalOf polls (switchedSet set applet false))) ⌝ }
+{
+    if before == after {
+        return Polling { interval, off };
+    }
+    let rest = sets::switched(set, applet, false);
+    let others = system_interval(polls, rest);
+    let was = shorter(before, others);
+    let is = shorter(after, others);
+    due_after(session, interval, off, was, is)
+}
+
+// What of polling is due after an applet became selectable, or locked.
 pub fn due_switched(
     session: bool,
     interval: bool,
@@ -139,11 +170,27 @@ pub fn due_switched(
     ensures { λ r. ⌜ r ≡ pollingAfter session interval off (intervalOf polls set) (intervalOf polls (switchedSet set applet on)) ⌝ }
 {
     let own = poll_at(polls, applet);
-    if own == 0 {
-        return Polling { interval, off };
-    }
-    let before = system_interval(polls, set);
-    let is = sets::switched(set, applet, on);
-    let after = system_interval(polls, is);
-    due_after(session, interval, off, before, after)
+    let was = sets::has(set, applet);
+    let before = counted(was, own);
+    let after = counted(on, own);
+    due_turned(session, interval, off, polls, set, applet, before, after)
+}
+
+// What of polling is due after an applet's request.
+pub fn due_requested(
+    session: bool,
+    interval: bool,
+    off: bool,
+    polls: [u16; Roll::APPLETS],
+    set: u8,
+    applet: u8,
+    seconds: u16,
+) -> Polling
+    ensures { λ r. ⌜ r ≡ pollingAfter session interval off (intervalOf polls set) (intervalOf (tableWith polls applet seconds) set) ⌝ }
+{
+    let own = poll_at(polls, applet);
+    let counts = sets::has(set, applet);
+    let before = counted(counts, own);
+    let after = counted(counts, seconds);
+    due_turned(session, interval, off, polls, set, applet, before, after)
 }

@@ -3,10 +3,10 @@ use Prim.Native.Nat.{ℕ, _-_, _≤_, _<_}
 use native.Mathlib.Omega.{arith}
 use mathlib.Core.Path.{_≡_, refl, sym, ap, ap₂, subst, _∙_}
 use mathlib.Core.Logic.{_⊎_, inl, inr}
-use mathlib.Core.Bool.{Bool, false}
+use mathlib.Core.Bool.{Bool, false, not}
 use mathlib.Core.List.{List, [], _∷_, _++_}
 use lib.ListN.{length, take, drop, getD}
-use Rattle.lists.specs.Tests.{if_then_else_}
+use Rattle.lists.specs.Tests.{if_then_else_, _==_}
 use Rattle.lists.specs.Lists.{keep, times}
 use Rattle.sets.specs.Sets.{has?}
 use Rattle.rules.specs.Holds.{Row, Model, document}
@@ -28,8 +28,8 @@ use Rattle.card.specs.View.{stored}
 use Rattle.card.proofs.Left.{after-seen}
 use Rattle.history.specs.Named.{isSelectable, hasOneShot}
 use Rattle.history.specs.Called.{isNamed, isDue, arrivalIn}
-use Rattle.history.specs.Handed.{Seen, seen, seenOf, handed, titleOf, isShown}
-use Rattle.history.specs.OnScreen.{wanted, command, ScreenRight}
+use Rattle.history.specs.Handed.{Seen, seen, seenOf, handed, titleOf, isShown, intervalNamed}
+use Rattle.history.specs.OnScreen.{wanted, OfPolling, command, ScreenRight}
 use Rattle.history.proofs.Answered.{passes, answers, refuses, status-is-taken}
 use Rattle.history.proofs.OneShot.{Each, waits, only-settled-arrives-so}
 use Rattle.history.proofs.Promises as runs
@@ -181,6 +181,9 @@ module _ (title : List ℕ) (calls : List Call) (x : Call) where
         hands-out = λ buffer ok e. hand-out buffer e (named-so e ok);
         accepts = λ buffer e idle room.
             ap (λ (y : Call). step (m title calls) y .answer .refusal) e ∙ right .accepts buffer (sym (runs.outstanding-is-named title calls) ∙ idle) room;
+        begins = λ bytes ok e.
+            subst (λ (y : Call). OfPolling (step (m title calls) y .after .desk .due) (not (intervalNamed (h title calls) == 0)) false) (sym e) (right .begins bytes (named-so e ok));
+        turns = λ begun. right .turns x (sym (runs.session-is-named title calls) ∙ begun);
         sent = λ n bytes ok e. right .sent n bytes (named-so e ok);
       }
     where

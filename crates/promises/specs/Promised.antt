@@ -34,7 +34,7 @@ use Rattle.history.specs.Deeds.{clears, deletes}
 use Rattle.history.specs.Named.{isPresent, isSelectable, isRegistered, ownsTimer, pollOf, hasOneShot, ownsControl, oneToEight, timerOwner, controlOwner, rowsNamed, inSession, isOutstanding, profileNamed}
 use Rattle.history.specs.Called.{isChosen, isHelped, isDue, Calls, arrivalIn}
 use Rattle.history.specs.Handed.{Seen, titleOf, handed, handedSince, isEventList, codesHanded, isPolling, lastPolling, isShown, codesNamed, intervalNamed, pollingNamed}
-use Rattle.history.specs.OnScreen.{wanted, leftDue, MenuRight}
+use Rattle.history.specs.OnScreen.{wanted, OfPolling, leftDue, MenuRight}
 use Rattle.promises.specs.Watched.{entriesOf, callOf, refusalOf, calledBy, Next}
 use Rattle.promises.specs.OneShots.{SetAndSettled, FiresOnce}
 use Rattle.promises.specs.DocumentOne.{Room, Already}
@@ -116,6 +116,11 @@ pub record Shows (asked : List ℕ) (h : History) (c : Card) (s : Seen) (k : Car
   pub hands-out : (buffer : List ℕ) → refusalOf s ≡ 0 → callOf s ≡ systemCommand buffer → HandsOut asked h c s k buffer
   -- It is accepted if nothing is outstanding and the buffer has 256 bytes.
   pub accepts : (buffer : List ℕ) → callOf s ≡ systemCommand buffer → c .desk .outstanding ≡ false → 256 ≤ length buffer → refusalOf s ≡ 0
+  -- A SESSION BEGINS with POLL INTERVAL due exactly if the history names an interval, and POLLING OFF not ..
+  pub begins : (bytes : List ℕ) → refusalOf s ≡ 0 → callOf s ≡ arrival (profile bytes) → OfPolling (k .desk .due) (not (intervalNamed h == 0)) false
+  -- .. and in it a call that changes the interval marks POLL INTERVAL due if there is one now, else POLLING OFF, and the other not.
+  pub turns : c .desk .session ≡ true → refusalOf s ≡ 0 → (intervalNamed h ≡ intervalNamed (s .entry ∷ h) → ⊥)
+      → OfPolling (k .desk .due) (not (intervalNamed (s .entry ∷ h) == 0)) (intervalNamed (s .entry ∷ h) == 0)
   -- No applet changes the screen: what an accepted send gives the terminal is neither a menu nor an event list nor a command for polling.
   pub sent : (n : ℕ) (bytes : List ℕ) → refusalOf s ≡ 0 → callOf s ≡ proactive (send n bytes) → (isMenu document bytes ≡ false) × (isEventList bytes ≡ false) × (isPolling bytes ≡ false)
 

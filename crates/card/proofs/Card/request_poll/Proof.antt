@@ -25,14 +25,8 @@ seconds-of-requires c κs = search needs
 poll-with-requires : tie.Need-poll-with-requires
 poll-with-requires c κs = search needs
 
-system-interval-requires : tie.Need-system-interval-requires
-system-interval-requires c κs = search needs
-
-system-interval-requires-2 : tie.Need-system-interval-requires-2
-system-interval-requires-2 c κs = search needs
-
-due-after-requires : tie.Need-due-after-requires
-due-after-requires c κs = search needs
+due-requested-requires : tie.Need-due-requested-requires
+due-requested-requires c κs = search needs
 
 of-refusal-requires : tie.Need-of-refusal-requires
 of-refusal-requires c κs = search needs
@@ -47,7 +41,7 @@ returns c =
     let refused = passed w16 d (λ (d : ℤ). firstHolding (line 2 (not (h .has .result)) ∷ line 20 (badDuration d) ∷ [])) (s .fits .duration) (r .poll-refusal .ensures) in
     ⊎-elim
     (λ w. takes (s .args .self) (s .pre) (s .args .applet) d (h .has .ensures) refused (w .0 .taken)
-    (passed w16 d secondsOf (s .fits .duration) (w .2 .ensures)) (w .3 .ensures) (w .4 .ensures) (w .5 .ensures) (w .6 .ensures) (w .9) (c .of-refusal .ensures))
+    (passed w16 d secondsOf (s .fits .duration) (w .2 .ensures)) (w .3 .ensures) (w .4 .ensures) (w .7) (c .of-refusal .ensures))
     (λ w. takes-not (s .args .self) (s .pre) (s .args .applet) d (h .has .ensures) refused (w .0 .left) (w .1) (c .of-refusal .ensures))
     (j .if1 .came)
 
@@ -59,8 +53,6 @@ request-poll-spec =
     poll-refusal-requires
     seconds-of-requires
     poll-with-requires
-    system-interval-requires
-    system-interval-requires-2
-    due-after-requires
+    due-requested-requires
     of-refusal-requires
     returns)

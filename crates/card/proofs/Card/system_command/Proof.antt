@@ -12,7 +12,6 @@ use Rattle.rules.specs.declared.Due.{Due}
 use Rattle.rules.specs.Holds.{nothingDue}
 use Rattle.rules.specs.Commands.{offBytes}
 use Rattle.lists.specs.Tests.{_==_}
-use Rattle.card.specs.declared.Card.{Card}
 use Rattle.card.proofs.Handed.{menuNow, eventsNow, intervalNow, rows-fit, title-short, handed-room, hands-out}
 use Rattle.card.proofs.Polled.{interval-few}
 use Rattle.card.proofs.Written.{Handed, byMenu, byEvents, byInterval, byOff, none-yet, off-wrote, then-yes, then-not, events-apart, interval-apart, off-apart}
