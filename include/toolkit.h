@@ -34,7 +34,6 @@ enum toolkit_bound {
     TOOLKIT_TITLE = 20,
     TOOLKIT_PROFILE = 32,   /* bytes of a terminal profile that are kept */
     TOOLKIT_EVENTS = 20,
-    TOOLKIT_INTERVAL = 15300,   /* seconds of the longest poll interval that may be requested */
     TOOLKIT_BUFFER = 256    /* the least buffer that toolkit_system_command takes */
 };
 

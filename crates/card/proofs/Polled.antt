@@ -9,7 +9,7 @@ use Rattle.lists.specs.Tests.{_==_}
 use Rattle.lists.proofs.Every.{every-so, every-map, every-keep}
 use Rattle.lists.proofs.Smallest.{smallest-under}
 use Rattle.rules.specs.Holds.{Applet, Tables, document}
-use Rattle.rules.specs.Applets.{polls}
+use Rattle.rules.specs.Applets.{longestPoll, polls}
 use Rattle.rules.specs.Commands.{interval}
 use Rattle.rules.specs.Desk.{isPolled}
 use Rattle.runs.specs.Sound.{SoundApplet, SoundTables}
@@ -30,15 +30,15 @@ module _ (c : Card) (left : Left c) where
   pub interval-now : intervalOf (c .polls) (c .selectable) ≡ interval t
   interval-now = ap₂ intervalOf (polls-form c left) (selectable-form c left) ∙ interval-by t (left-sound c left .tables) (left-bounds c left)
 
-  pub interval-few : intervalOf (c .polls) (c .selectable) ≤ 15300
+  pub interval-few : intervalOf (c .polls) (c .selectable) ≤ longestPoll
   unfolding interval
   interval-few =
       omega (
         arith,
         interval-now,
-        smallest-under 15300 _
-            (every-map (λ n. n ≤ 15300) (λ (x : Applet). x .poll) _
-            (every-so _ (λ (x : Applet). x .poll ≤ 15300) (λ x q. q .0 .poll) _ (every-keep (SoundApplet (t .bounds)) (λ (x : Applet). x .selectable && polls x) (t .applets) (left-sound c left .tables .each-applet)))),
+        smallest-under longestPoll _
+            (every-map (λ n. n ≤ longestPoll) (λ (x : Applet). x .poll) _
+            (every-so _ (λ (x : Applet). x .poll ≤ longestPoll) (λ x q. q .0 .poll) _ (every-keep (SoundApplet (t .bounds)) (λ (x : Applet). x .selectable && polls x) (t .applets) (left-sound c left .tables .each-applet)))),
       )
 
   pub polled-now : not (intervalOf (c .polls) (c .selectable) == 0) ≡ isPolled t

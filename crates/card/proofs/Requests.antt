@@ -11,7 +11,7 @@ use Rattle.sets.specs.Sets.{has?}
 use Rattle.rules.specs.declared.Answer.{Answer}
 use Rattle.rules.specs.Holds.{Applet, Tables, Model, withApplets, withPoll}
 use Rattle.rules.specs.Held.{storedAnswer}
-use Rattle.rules.specs.Applets.{hasNumber, present, badDuration, secondsOf}
+use Rattle.rules.specs.Applets.{hasNumber, present, longestPoll, badDuration, secondsOf}
 use Rattle.rules.specs.Calls.{Call, event, requestPoll, accepted, refusedWith}
 use Rattle.rules.specs.Desk.{marked}
 use Rattle.rules.specs.Refusals.{line, lines, firstHolding, eventLines, refusal}
@@ -78,7 +78,7 @@ module _ (c : Card) (left : Left c) (n : ℕ) (d : ℤ) {there : Bool} (found : 
       unfolding lines eventLines Every
       here = is-here t n (runs.accepted m call (sym refusal-is ∙ z) .0)
 
-      few : s ≤ 15300
+      few : s ≤ longestPoll
       unfolding lines eventLines Every
       few = seconds-few d (runs.accepted m call (sym refusal-is ∙ z) .1 .0)
 

@@ -13,13 +13,14 @@ ghost use lib.ListN.{length, take};
 ghost use Rattle.lists.specs.Tests.{_==_};
 ghost use Rattle.lists.specs.Wrote.{Wrote};
 ghost use Rattle.rules.specs.Events.{codes, firstDownload};
+ghost use Rattle.rules.specs.Applets.{longestPoll};
 ghost use Rattle.rules.specs.Commands.{menuOf, menuBytes, eventBytes, intervalBytes};
 ghost use Rattle.rules.specs.Calls.{systemCommand};
 ghost use Rattle.commands.specs.Fits.{Fits, shownOf};
 ghost use Rattle.events_shown.specs.Listed.{codesFrom};
 ghost use Rattle.events_shown.specs.Turns.{isListened};
-ghost use Rattle.card.specs.View.{Left};
 ghost use Rattle.polling.specs.Polls.{intervalOf};
+ghost use Rattle.card.specs.View.{Left};
 ghost use Rattle.card.specs.Replies.{Replies, Fills};
 ghost use Rattle.card.specs.Turns.{firstDue, restDue};
 
@@ -79,7 +80,7 @@ fn put_events(buf: &mut [u8], registered: [u8; Kind::EVENTS], selectable: u8) ->
 
 // Writes POLL INTERVAL with the system interval; how many bytes it has.
 fn put_interval(buf: &mut [u8], polls: [u16; Roll::APPLETS], selectable: u8) -> usize
-    requires { ⌜ (intervalOf polls selectable ≤ 15300) × (256 ≤ length (now buf)) ⌝ }
+    requires { ⌜ (intervalOf polls selectable ≤ longestPoll) × (256 ≤ length (now buf)) ⌝ }
     ensures { λ r. ⌜ Wrote (now (buf .entry)) 0 (intervalBytes (intervalOf polls selectable)) (now (buf .exit)) r × (r < 256) ⌝ }
 {
     let seconds = polling::system_interval(polls, selectable);

@@ -8,6 +8,7 @@ ghost use lib.ListN.{length};
 ghost use Rattle.lists.specs.Tests.{if_then_else_, _==_};
 ghost use Rattle.lists.specs.Lists.{some?};
 ghost use Rattle.rules.specs.Holds.{Row};
+ghost use Rattle.rules.specs.Applets.{longestPoll};
 ghost use Rattle.rules.specs.Commands.{lengthBytes, itemBytes, itemsBytes, menuOf, menuBytes, eventBytes, durationBytes, intervalBytes, offBytes};
 ghost use Rattle.lists.specs.Wrote.{Wrote};
 ghost use Rattle.commands.specs.Fits.{itemsOf, rowsBytes, shownOf, Fits};
@@ -144,7 +145,7 @@ pub fn write_events(buf: &mut [u8], codes: &[u8]) -> usize
 
 // A duration: 84, length, unit, count; in seconds up to 255, else in minutes.
 fn put_duration(buf: &mut [u8], at: usize, seconds: u16) -> usize
-    requires { ⌜ (seconds ≤ 15300) × (at + 4 ≤ length (now buf)) ⌝ }
+    requires { ⌜ (seconds ≤ longestPoll) × (at + 4 ≤ length (now buf)) ⌝ }
     ensures { λ r. ⌜ Wrote (now (buf .entry)) at (durationBytes seconds) (now (buf .exit)) r ⌝ }
 {
     if seconds <= 255 {
@@ -158,7 +159,7 @@ fn put_duration(buf: &mut [u8], at: usize, seconds: u16) -> usize
 
 // POLL INTERVAL at the front of the buffer; how many bytes it has.
 pub fn write_interval(buf: &mut [u8], seconds: u16) -> usize
-    requires { ⌜ (seconds ≤ 15300) × (256 ≤ length (now buf)) ⌝ }
+    requires { ⌜ (seconds ≤ longestPoll) × (256 ≤ length (now buf)) ⌝ }
     ensures { λ r. ⌜ Wrote (now (buf .entry)) 0 (intervalBytes seconds) (now (buf .exit)) r ⌝ }
 {
     let head = [0xD0, 13, 0x81, 3, 1, 3, 0, 0x82, 2, 0x81, 0x82];

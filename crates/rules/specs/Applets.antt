@@ -124,9 +124,12 @@ register t n Reserved b = t
 register t n Unsupported b = t
 
 -- Poll intervals (document 02, Ask 1): an applet requests 1 to 15300 seconds, 0 for none, or -1 for the card's choice, which is none.
+abbrev pub longestPoll : ℕ
+longestPoll = 15300
+
 -- refusal 20: any other duration
 unfoldable pub badDuration : (duration : ℤ) → Bool
-badDuration d = ltZ d (minus 1) || ltZ (pos 15300) d
+badDuration d = ltZ d (minus 1) || ltZ (pos longestPoll) d
 
 -- the seconds that an accepted duration requests
 unfoldable pub secondsOf : (duration : ℤ) → ℕ

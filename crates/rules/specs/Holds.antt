@@ -20,7 +20,7 @@ pub record Applet : Type 0 where
   pub made : ℕ  -- how many of its entries are made
   pub selectable : Bool  -- or locked
   pub events : List Bool  -- whether it is registered, by the event's place; call control is not kept here
-  pub poll : ℕ  -- the poll interval that it requests, in seconds, to 15300; 0 is none
+  pub poll : ℕ  -- the poll interval that it requests, in seconds; 0 is none
 
 -- A row of the menu list.
 pub record Row : Type 0 where

@@ -15,7 +15,7 @@ use Rattle.lists.proofs.Every.{every-so, every-set}
 use Rattle.lists.proofs.Counts.{count-set}
 use Rattle.lists.proofs.Matched.{Matched, matched-every, matched-sum, matched-gather, matched-count, matched-some, matched-first, matched-length, matched-so}
 use Rattle.rules.specs.Holds.{Applet, Row, Limits, Tables, withApplets, withRows, withTimers, withControl}
-use Rattle.rules.specs.Applets.{hasNumber, present, applet, nobody, entries, requested, forget}
+use Rattle.rules.specs.Applets.{hasNumber, present, applet, nobody, entries, requested, forget, longestPoll}
 use Rattle.rules.specs.Rows.{hasIdentifier}
 use Rattle.runs.specs.Sound.{SoundApplet, SoundRow, SoundTables, NobodyOrPresent, served, requests}
 use Rattle.runs.proofs.Looked.{sound-applet}
@@ -81,7 +81,7 @@ pub record SameApplet (x y : Applet) : Type 0 where
   pub limits : y .limits ≡ x .limits
   pub made : y .made ≡ x .made
   pub events : length (y .events) ≡ length (x .events)
-  pub poll : x .poll ≤ 15300 → y .poll ≤ 15300
+  pub poll : x .poll ≤ longestPoll → y .poll ≤ longestPoll
 
 pub same-self : (x : Applet) → SameApplet x x
 same-self x = record { number = refl; priority = refl; limits = refl; made = refl; events = refl; poll = λ h. h }

@@ -19,7 +19,7 @@ use Rattle.rules.specs.declared.Kind.{Kind}
 use Rattle.rules.specs.declared.Kind.the-variants.{Event, Issuer, Reserved, Unsupported}
 use Rattle.rules.specs.Holds.{Applet, Tables, Model, withApplets, withControl, withSelectable, withEvent, withPoll}
 use Rattle.rules.specs.Events.{kindOf, callControl, handlerAvailable}
-use Rattle.rules.specs.Applets.{hasNumber, present, nobody, forget, withRegistration, register, badDuration, secondsOf, calledWhenSettled, usedUp}
+use Rattle.rules.specs.Applets.{hasNumber, present, nobody, forget, withRegistration, register, longestPoll, badDuration, secondsOf, calledWhenSettled, usedUp}
 use Rattle.rules.specs.Calls.{EventCall, event, setEvent, clearEvent, askEvent, requestPoll}
 use Rattle.rules.specs.Refusals.{lines, eventLines, refusal}
 use Rattle.rules.specs.Step.{eventTables}
@@ -38,7 +38,7 @@ selectable-same b x = record { number = refl; priority = refl; limits = refl; ma
 event-same : (e : ℕ) (b : Bool) (x : Applet) → SameApplet x (withEvent e b x)
 event-same e b x = record { number = refl; priority = refl; limits = refl; made = refl; events = length-set (x .events) e b; poll = λ h. h }
 
-pub poll-same : (s : ℕ) → s ≤ 15300 → (x : Applet) → SameApplet x (withPoll s x)
+pub poll-same : (s : ℕ) → s ≤ longestPoll → (x : Applet) → SameApplet x (withPoll s x)
 poll-same s few x = record { number = refl; priority = refl; limits = refl; made = refl; events = refl; poll = λ h. few }
 
 register-sound : (t : Tables) (n : ℕ) (k : Kind) (b : Bool) → present t n ≡ true → SoundTables t → SoundTables (register t n k b)
@@ -53,10 +53,10 @@ register-sound t n Issuer b here g = g
 register-sound t n Reserved b here g = g
 register-sound t n Unsupported b here g = g
 
--- a duration that is taken is no more than 15300 seconds
-pub seconds-few : (d : ℤ) → badDuration d ≡ false → secondsOf d ≤ 15300
+-- a duration that is taken is no more than the longest
+pub seconds-few : (d : ℤ) → badDuration d ≡ false → secondsOf d ≤ longestPoll
 unfolding badDuration secondsOf
-seconds-few (pos n) e = ltb-false 15300 n e
+seconds-few (pos n) e = ltb-false longestPoll n e
 seconds-few (negsuc n) e = omega arith
 
 pub event-sound : (m : Model) (c : EventCall) → refusal m (event c) ≡ 0 → SoundTables (m .tables) → SoundTables (eventTables (m .tables) c)

@@ -10,7 +10,7 @@ use Rattle.lists.specs.Lists.{Every, count, sum, gather, in?}
 use Rattle.rules.specs.declared.Pair.{Pair}
 use Rattle.rules.specs.Holds.{Applet, Row, Bounds, Tables, Model}
 use Rattle.rules.specs.Events.{supported}
-use Rattle.rules.specs.Applets.{hasNumber, present, applet, entries, requested}
+use Rattle.rules.specs.Applets.{hasNumber, present, applet, entries, requested, longestPoll}
 use Rattle.rules.specs.Rows.{hasIdentifier}
 
 -- an applet: its number, its limits within the bounds, no more entries made than its limit, and its request
@@ -24,7 +24,7 @@ pub record SoundApplet (b : Bounds) (x : Applet) : Type 0 where
   pub identifiers : Every (λ (p : Pair). p .identifier ≤ 127) (x .limits .pairs)
   pub made : x .made ≤ length (x .limits .pairs)
   pub events : length (x .events) ≡ length supported
-  pub poll : x .poll ≤ 15300
+  pub poll : x .poll ≤ longestPoll
 
 -- the identifiers, other than 0, that an applet requested for the entries it has made
 unfoldable pub served : Applet → List ℕ

@@ -6,7 +6,7 @@ use lib.Signed.{ltZ}
 use mir.Syntax.{w16}
 use Rattle.lists.proofs.Signed.{tested}
 use Rattle.rules.specs.Events.{minus}
-use Rattle.rules.specs.Applets.{badDuration}
+use Rattle.rules.specs.Applets.{longestPoll, badDuration}
 use Rattle.rules.specs.Refusals.{firstHolding}
 use Rattle.refusals.proofs.poll_refusal.Statement.{statement}
 use Rattle.refusals.proofs.poll_refusal.Tie as tie
@@ -22,14 +22,14 @@ unfolding firstHolding badDuration
 returns-2 c =
     let s = c .before .before .before in
     let low = tested w16 (s .args .duration) (λ d. ltZ d (minus 1)) _ (s .fits .duration) (c .before .if2 .left) in
-    rw (c .before .before .if1 .taken, low, tested w16 (s .args .duration) (ltZ (pos 15300)) _ (s .fits .duration) (c .if3 .taken)) refl
+    rw (c .before .before .if1 .taken, low, tested w16 (s .args .duration) (ltZ (pos longestPoll)) _ (s .fits .duration) (c .if3 .taken)) refl
 
 returns-3 : tie.Need-returns-3
 unfolding firstHolding badDuration
 returns-3 c =
     let s = c .before .before .before in
     let low = tested w16 (s .args .duration) (λ d. ltZ d (minus 1)) _ (s .fits .duration) (c .before .if2 .left) in
-    rw (c .before .before .if1 .taken, low, tested w16 (s .args .duration) (ltZ (pos 15300)) _ (s .fits .duration) (c .if3 .left)) refl
+    rw (c .before .before .if1 .taken, low, tested w16 (s .args .duration) (ltZ (pos longestPoll)) _ (s .fits .duration) (c .if3 .left)) refl
 
 returns-4 : tie.Need-returns-4
 unfolding firstHolding
