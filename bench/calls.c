@@ -23,8 +23,7 @@ static const uint8_t expiry[] = {0xD7, 7, 0x82, 2, 0x82, 0x81, 0xA4, 1, 8};
 static const uint8_t unrecognized[] = {0xC1, 4, 0x82, 2, 0x82, 0x81};
 static const uint8_t command[] = {0xD0, 12, 0x81, 3, 1, 0x27, 0, 0x82, 2, 0x81, 0x82, 0xA4, 1, 8};
 static struct toolkit_bank bank = {{1, 2, 3, 4, 5, 6, 7, 0}};
-static uint8_t plain_bank[TIMERS] = {1, 2, 3, 4, 5, 6, 7, 0}, buffer[TOOLKIT_BUFFER], menu[TOOLKIT_BUFFER], menu_length, number;
-static struct called called;
+static uint8_t plain_bank[TIMERS] = {1, 2, 3, 4, 5, 6, 7, 0}, buffer[TOOLKIT_BUFFER], menu[TOOLKIT_BUFFER], menu_length, number, marks;
 static struct part part;
 static struct menu read;
 static bool yes;
@@ -69,7 +68,7 @@ static void set_all(struct both *b, uint8_t applet)
 }
 
 /* Eight applets with a timer, all events and a poll interval each, the last one's the shortest, twelve rows of the longest text, a session;
-   the menu, the events and the interval are due. */
+   the menu, the events and the interval are due, and all eight wait for their turns in the profile's round. */
 static void fill(struct both *b)
 {
     fresh_ours(b);
@@ -91,7 +90,7 @@ static void fill(struct both *b)
         card_new_entry(&b->plain, row / 4 + 1, text, TEXT, true, &number);
     }
     toolkit_profile(&b->ours, profile, sizeof profile);
-    card_profile(&b->plain, profile, sizeof profile, &called);
+    card_profile(&b->plain, profile, sizeof profile, &marks);
 }
 
 /* What is done to a filled card before a call. */
@@ -100,15 +99,10 @@ static void nothing(struct both *b)
     (void)b;
 }
 
-static void without(struct both *b, uint8_t applet)
-{
-    toolkit_delete(&b->ours, applet);
-    card_delete(&b->plain, applet);
-}
-
 static void without_3(struct both *b)
 {
-    without(b, 3);
+    toolkit_delete(&b->ours, 3);
+    card_delete(&b->plain, 3);
 }
 
 static void locked_3(struct both *b)
@@ -122,7 +116,7 @@ static void one_row_short(struct both *b)
 {
     struct terms terms;
     memcpy(&terms, &request, sizeof terms);
-    without(b, 3);
+    without_3(b);
     toolkit_install(&b->ours, 3, request);
     card_install(&b->plain, 3, &terms);
     for (int row = 0; row < 3; row++) {
@@ -149,6 +143,25 @@ static void outstanding(struct both *b)
     send_plain(b);
 }
 
+static void turns(struct both *b, int count)
+{
+    for (int i = 0; i < count; i++) {
+        toolkit_next(&b->ours);
+        card_next(&b->plain, &number);
+    }
+}
+
+#define TURNS(name, count) static void name(struct both *b) { turns(b, count); }
+TURNS(one_waits, APPLETS - 1)
+TURNS(nobody_waits, APPLETS)
+TURNS(round_over, APPLETS + 1)
+
+static void help_asked(struct both *b)
+{
+    toolkit_envelope(&b->ours, selection, sizeof selection);
+    card_envelope(&b->plain, selection, sizeof selection, &marks);
+}
+
 #define CALLS(CALL)                                                                                                                     \
     CALL(copy_of_card, nothing, (spare.ours = b->ours, 0), (spare.plain = b->plain, 0))                                                 \
     CALL(fresh, nothing, fresh_ours(b), card_fresh(&b->plain, title, TITLE))                                                            \
@@ -168,17 +181,20 @@ static void outstanding(struct both *b)
     CALL(disable_entry, nothing, toolkit_disable_entry(&b->ours, 3, 139).refusal, card_disable_entry(&b->plain, 3, 139))                \
     CALL(allocate_timer, timer_8_free, toolkit_allocate_timer(&b->ours, 8).refusal, card_allocate(&b->plain, 8, &number))               \
     CALL(release_timer, nothing, toolkit_release_timer(&b->ours, 8, 8).refusal, card_release(&b->plain, 8, 8))                          \
-    CALL(profile, nothing, toolkit_profile(&b->ours, profile, 32).refusal, card_profile(&b->plain, profile, 32, &called))               \
+    CALL(profile, nothing, toolkit_profile(&b->ours, profile, 32).refusal, card_profile(&b->plain, profile, 32, &marks))                \
     CALL(envelope_help, nothing, toolkit_envelope(&b->ours, selection, sizeof selection).refusal,                                       \
-         card_envelope(&b->plain, selection, sizeof selection, &called))                                                                \
+         card_envelope(&b->plain, selection, sizeof selection, &marks))                                                                 \
     CALL(envelope_event, nothing, toolkit_envelope(&b->ours, download, sizeof download).refusal,                                        \
-         card_envelope(&b->plain, download, sizeof download, &called))                                                                  \
+         card_envelope(&b->plain, download, sizeof download, &marks))                                                                   \
     CALL(envelope_timer, nothing, toolkit_envelope(&b->ours, expiry, sizeof expiry).refusal,                                            \
-         card_envelope(&b->plain, expiry, sizeof expiry, &called))                                                                      \
+         card_envelope(&b->plain, expiry, sizeof expiry, &marks))                                                                       \
     CALL(envelope_other, nothing, toolkit_envelope(&b->ours, unrecognized, sizeof unrecognized).refusal,                                \
-         card_envelope(&b->plain, unrecognized, sizeof unrecognized, &called))                                                          \
-    CALL(status, nothing, toolkit_status(&b->ours).refusal, card_status(&b->plain, &called))                                            \
-    CALL(settled, nothing, toolkit_settled(&b->ours).refusal, card_settled(&b->plain, &called))                                         \
+         card_envelope(&b->plain, unrecognized, sizeof unrecognized, &marks))                                                           \
+    CALL(status, nothing, toolkit_status(&b->ours).refusal, card_status(&b->plain, &marks))                                             \
+    CALL(settled, round_over, toolkit_settled(&b->ours).refusal, card_settled(&b->plain, &marks))                                       \
+    CALL(next_event, one_waits, toolkit_next(&b->ours).refusal, card_next(&b->plain, &number))                                          \
+    CALL(next_help, help_asked, toolkit_next(&b->ours).refusal, card_next(&b->plain, &number))                                          \
+    CALL(next_nobody, nobody_waits, toolkit_next(&b->ours).refusal, card_next(&b->plain, &number))                                      \
     CALL(send, nothing, send_ours(b), send_plain(b))                                                                                    \
     CALL(command_menu, nothing, toolkit_system_command(&b->ours, buffer, sizeof buffer).refusal,                                        \
          card_system_command(&b->plain, buffer, sizeof buffer, &number))                                                                \

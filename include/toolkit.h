@@ -1,6 +1,6 @@
 /* The toolkit runtime of a SIM, for C11 and C++17; link libtoolkit.a (`rt staticlib toolkit`), which needs memcpy, memmove and memset alone.
 
-   A card is 468 bytes of the caller's memory, at an even address, with no pointer in it. Make it by toolkit_fresh, change it by the calls
+   A card is 472 bytes of the caller's memory, at an even address, with no pointer in it. Make it by toolkit_fresh, change it by the calls
    below only: they take for granted that a fresh card and calls have left it so. It may be read, copied and moved at will. The library
    keeps nothing between calls, allocates nothing and has no variables, so cards are independent of each other, on whatever threads.
 
@@ -59,7 +59,9 @@ enum toolkit_refusal {
     TOOLKIT_SYSTEM_TYPE = 17,           /* SET UP MENU 25, SET UP EVENT LIST 05, POLL INTERVAL 03, POLLING OFF 04 (hex) */
     TOOLKIT_SHORT_BUFFER = 18,          /* lent buffer under 256 bytes */
     TOOLKIT_NONE_OUTSTANDING = 19,      /* no command outstanding */
-    TOOLKIT_BAD_DURATION = 20           /* poll request of any other duration than -1, 0 and 1 to 15300 seconds */
+    TOOLKIT_BAD_DURATION = 20,          /* poll request of any other duration than -1, 0 and 1 to 15300 seconds */
+    TOOLKIT_NO_ROUND = 21,              /* no round is open */
+    TOOLKIT_ROUND_OPEN = 22             /* a round is open */
 };
 
 /* TS 102 241, clause 6.2. Menu selection, its help request and timer expiration come with rows and timers, and cannot be set. */
@@ -83,7 +85,17 @@ enum toolkit_event {
     TOOLKIT_EVENT_DISPLAY_PARAMETERS = 26,
     TOOLKIT_EVENT_NETWORK_SEARCH_MODE = 28,
     TOOLKIT_EVENT_BROWSING_STATUS = 29,
-    TOOLKIT_EVENT_HANDLER_AVAILABLE = 123   /* used up when settled calls the applet */
+    TOOLKIT_EVENT_HANDLER_AVAILABLE = 123   /* used up at the applet's turn in a round that settled opened */
+};
+
+/* What a round was opened by, and what number goes with it. */
+enum toolkit_arrival {
+    TOOLKIT_ARRIVED_NOTHING = 0,        /* a download of a code that is not supported: it calls nobody */
+    TOOLKIT_ARRIVED_EVENT = 1,          /* the event's place in toolkit_card.registered; settled has that of handler available */
+    TOOLKIT_ARRIVED_CHOICE = 2,         /* the row's identifier */
+    TOOLKIT_ARRIVED_HELP = 3,           /* the row's identifier */
+    TOOLKIT_ARRIVED_EXPIRY = 4,         /* the timer */
+    TOOLKIT_ARRIVED_STATUS = 5
 };
 
 /* ---- What an install asks for ---- */
@@ -163,6 +175,19 @@ struct toolkit_desk {
 };
 TOOLKIT_LAYOUT(struct toolkit_desk, 59, 1);
 
+struct toolkit_arrived {
+    uint8_t kind;           /* enum toolkit_arrival */
+    uint8_t number;         /* 0 where the kind has none */
+};
+TOOLKIT_LAYOUT(struct toolkit_arrived, 2, 1);
+
+struct toolkit_round {      /* zeros where none is open */
+    bool open;
+    struct toolkit_arrived arrived;
+    uint8_t waiting;        /* set of those registered on arrival, locked or not, less those named or deleted since */
+};
+TOOLKIT_LAYOUT(struct toolkit_round, 4, 1);
+
 struct toolkit_card {
     uint16_t polls[TOOLKIT_APPLETS];        /* by number, the poll interval that it requests, in seconds; 0: none */
     uint8_t selectable;                     /* set of those that are not locked */
@@ -173,8 +198,9 @@ struct toolkit_card {
     struct toolkit_roll roll;
     struct toolkit_rows rows;
     struct toolkit_desk desk;
+    struct toolkit_round round;
 };
-TOOLKIT_LAYOUT(struct toolkit_card, 468, 2);
+TOOLKIT_LAYOUT(struct toolkit_card, 472, 2);
 TOOLKIT_FACT(offsetof(struct toolkit_card, polls) == 0);
 TOOLKIT_FACT(offsetof(struct toolkit_card, selectable) == 16);
 TOOLKIT_FACT(offsetof(struct toolkit_card, registered) == 17);
@@ -184,6 +210,7 @@ TOOLKIT_FACT(offsetof(struct toolkit_card, bank) == 46);
 TOOLKIT_FACT(offsetof(struct toolkit_card, roll) == 54);
 TOOLKIT_FACT(offsetof(struct toolkit_card, rows) == 168);
 TOOLKIT_FACT(offsetof(struct toolkit_card, desk) == 409);
+TOOLKIT_FACT(offsetof(struct toolkit_card, round) == 468);
 
 /* ---- Answers: with a refusal, all else is 0 or false ---- */
 
@@ -198,17 +225,16 @@ struct toolkit_answer {
     uint8_t refusal;        /* enum toolkit_refusal */
     uint8_t number;         /* new entry: its identifier; allocate timer: the timer; system command: the length written */
     bool says;              /* ask event: yes or no */
-    uint8_t called[TOOLKIT_APPLETS];    /* profile, envelope, status, settled: whom to call, in this order */
-    uint8_t count;                      /* how many of them */
-    struct toolkit_marks marks;
+    uint8_t called;         /* next: the applet to call; 0: nobody */
+    struct toolkit_marks marks;     /* profile, envelope, status, settled */
 };
-TOOLKIT_LAYOUT(struct toolkit_answer, 15, 1);
+TOOLKIT_LAYOUT(struct toolkit_answer, 7, 1);
 
 struct toolkit_made {
     struct toolkit_card card;
     uint8_t refusal;
 };
-TOOLKIT_LAYOUT(struct toolkit_made, 470, 2);
+TOOLKIT_LAYOUT(struct toolkit_made, 474, 2);
 
 struct toolkit_spot {       /* a part of the caller's bytes */
     size_t start;
@@ -243,7 +269,7 @@ struct toolkit_made toolkit_fresh(const void *title, size_t title_len);
 /* A new applet, selectable. Refusals 2, 3, 4, 5, 6. */
 struct toolkit_answer toolkit_install(struct toolkit_card *card, uint8_t applet, struct toolkit_request request);
 
-/* Removes an applet with its rows, timers, registrations and poll request. Refusal 2. */
+/* Removes an applet with its rows, timers, registrations and poll request; its number leaves the round. Refusal 2. */
 struct toolkit_answer toolkit_delete(struct toolkit_card *card, uint8_t applet);
 
 /* A locked applet is not called, its rows are not shown and its poll request does not count. Refusal 2. */
@@ -280,17 +306,26 @@ struct toolkit_answer toolkit_allocate_timer(struct toolkit_card *card, uint8_t 
 /* Refusals 2, 15. */
 struct toolkit_answer toolkit_release_timer(struct toolkit_card *card, uint8_t applet, uint8_t timer);
 
-/* The terminal's profile begins a session and ends an outstanding command; answer.called are to be called. Refusal 1. */
+/* What arrives: a profile, an envelope, a STATUS, and the moment when everyone called has returned. Each answers its marks only and opens a
+   round, in which those registered for it have their turns; it takes the place of a round that is open, where settled is refused instead. An
+   operating system runs it so: the arrival; toolkit_next and a call of the applet that it names, until it names nobody; then toolkit_settled;
+   and again toolkit_next, until it names nobody. */
+
+/* The terminal's profile begins a session and ends an outstanding command. It calls those registered for it. Refusal 1. */
 struct toolkit_answer toolkit_profile(struct toolkit_card *card, const void *bytes, size_t bytes_len);
 
-/* An envelope of the terminal; answer.called are to be called, with the handlers that answer.marks tells. Refusal 1. */
+/* An envelope of the terminal; answer.marks tells the handlers that those called have. Refusal 1. */
 struct toolkit_answer toolkit_envelope(struct toolkit_card *card, const void *bytes, size_t bytes_len);
 
-/* A STATUS of the terminal; answer.called request a poll interval. No refusal. */
+/* A STATUS of the terminal. It calls those who request a poll interval. No refusal. */
 struct toolkit_answer toolkit_status(struct toolkit_card *card);
 
-/* Everyone called has returned; answer.called waited for the proactive handler. Refusal 16. */
+/* Everyone called has returned. It calls those who wait for the proactive handler. Refusals 16, 22. */
 struct toolkit_answer toolkit_settled(struct toolkit_card *card);
+
+/* The round's next turn: answer.called is the first, in order of call, of those who were registered on arrival and still are, are not locked,
+   and have not been named in the round. Where that is nobody the round ends. Refusal 21. */
+struct toolkit_answer toolkit_next(struct toolkit_card *card);
 
 /* An applet's own proactive command, which is outstanding from then on. Refusals 1, 2, 15, 16, 17. */
 struct toolkit_answer toolkit_send(struct toolkit_card *card, uint8_t applet, const void *bytes, size_t bytes_len);

@@ -1,15 +1,24 @@
-"""Floor cases with their lines written by hand: `letter applet arguments > refusal answer`, in hex where bytes are."""
+"""Floor cases with their lines written by hand: `letter applet arguments > refusal answer`, in hex where bytes are.
+Behind `turns` stand the answers of the nexts that follow, which are accepted."""
 
+from roundcases import ROUNDS
 from streams import record
 
 ENVELOPE_OF_ROW = "S 0 D307820282819001"
 INSTALL_REST = "0000000000000000"
 
 
+def steps_of(script):
+    """A step for each record."""
+    for line in filter(None, map(str.strip, script.splitlines())):
+        step, _, answers = line.partition(" turns ")
+        yield from [step, *(f"N 0 > 0 {answer}" for answer in answers.split())]
+
+
 def read_case(script):
     """The bytes of a case's records and the lines they are to give."""
     data, lines = b"", []
-    for number, step in enumerate(filter(None, map(str.strip, script.splitlines())), 1):
+    for number, step in enumerate(steps_of(script), 1):
         asked, _, expected = step.partition(" > ")
         letter, applet, arguments = (asked.split() + [""])[:3]
         data += record(letter, int(applet), bytes.fromhex(arguments))
@@ -77,7 +86,8 @@ CASES = {
         M 1 00436861697273 > 0 80
         P 0 FF > 0 -
         W 0 > 0 D01D81030125008202818285008F07014368616972738F0780436861697273
-        S 0 D30782020181900180 > 0 01""",
+        S 0 D30782020181900180 > 0 -
+        N 0 > 0 01""",
     "order form with equal titles": f"""
         I 1 0100030B{INSTALL_REST} > 0 -
         I 2 0100030B{INSTALL_REST} > 0 -
@@ -135,12 +145,12 @@ CASES = {
         E 2 0009 > 9 -
         E 2 000C > 0 -
         C 2 0009 > 0 -
-        S 0 D40482028281 > 0 -
+        S 0 D40482028281 > 0 - turns -
         U 1 > 0 -
-        S 0 D40482028281 > 0 01
+        S 0 D40482028281 > 0 - turns 01 -
         D 1 > 0 -
         E 2 0009 > 0 -
-        S 0 D40482028281 > 0 02""",
+        S 0 D40482028281 > 0 - turns 02 -""",
     "timers": f"""
         I 1 0108000F{INSTALL_REST} > 0 -
         I 2 0101000F{INSTALL_REST} > 0 -
@@ -158,10 +168,10 @@ CASES = {
         T 1 > 0 08
         T 3 > 14 -
         T 1 > 13 -
-        S 0 D70782028281A40108 > 0 01
-        S 0 D70782028281A40109 > 0 -
+        S 0 D70782028281A40108 > 0 - turns 01 -
+        S 0 D70782028281A40109 > 0 - turns -
         L 1 > 0 -
-        S 0 D70782028281A40108 > 0 -""",
+        S 0 D70782028281A40108 > 0 - turns -""",
     "events": f"""
         I 1 0100000F{INSTALL_REST} > 0 -
         E 1 0000 > 7 -
@@ -177,12 +187,12 @@ CASES = {
         C 1 7FFF > 7 -
         E 2 0000 > 2 -
         E 1 FFFF > 0 -
-        S 0 C100 > 0 01
-        S 0 7F00 > 0 01
-        S 0 530782028281900180 > 0 01
-        S 0 D000 > 0 01
-        S 0 C10100 > 1 -
-        S 0 D6078202828199010D > 0 -""",
+        S 0 C100 > 0 - turns 01
+        S 0 7F00 > 0 - turns 01
+        S 0 530782028281900180 > 0 - turns 01
+        S 0 D000 > 0 - turns 01
+        S 0 C10100 > 1 - turns -
+        S 0 D6078202828199010D > 0 - turns -""",
     "order of calling": f"""
         I 1 0500000F{INSTALL_REST} > 0 -
         I 2 0500000F{INSTALL_REST} > 0 -
@@ -192,33 +202,33 @@ CASES = {
         E 1 0001 > 0 -
         E 2 0001 > 0 -
         E 3 0001 > 0 -
-        P 0 00 > 0 03020104
+        P 0 00 > 0 - turns 03 02 01 04 -
         D 1 > 0 -
         I 1 0500000F{INSTALL_REST} > 0 -
-        P 0 00 > 0 030204
+        P 0 00 > 0 - turns 03 02 04 -
         E 1 0001 > 0 -
-        P 0 00 > 0 03010204
+        P 0 00 > 0 - turns 03 01 02 04 -
         L 2 > 0 -
-        P 0 00 > 0 030104""",
+        P 0 00 > 0 - turns 03 01 04 -""",
     "one-shots": f"""
         I 1 0100000F{INSTALL_REST} > 0 -
         I 2 0100000F{INSTALL_REST} > 0 -
         E 1 007B > 0 -
         E 2 007B > 0 -
         L 1 > 0 -
-        O 0 > 0 02
-        O 0 > 0 -
+        O 0 > 0 - turns 02 -
+        O 0 > 0 - turns -
         U 1 > 0 -
         E 1 000C > 0 -
-        P 0 FF > 0 -
+        P 0 FF > 0 - turns -
         W 0 > 0 D00C810301050082028182990100
         O 0 > 16 -
         R 0 > 0 -
-        O 0 > 0 01
-        O 0 > 0 -
+        O 0 > 0 - turns 01 -
+        O 0 > 0 - turns -
         E 1 007B > 0 -
         C 1 007B > 0 -
-        O 0 > 0 -""",
+        O 0 > 0 - turns -""",
     "due marks": f"""
         I 1 0100010F{INSTALL_REST} > 0 -
         M 1 0041 > 0 80
@@ -262,27 +272,28 @@ CASES = {
         M 1 0041 > 0 80
         M 1 0141 > 0 81
         T 1 > 0 01
-        {ENVELOPE_OF_ROW}80 > 0 01
-        {ENVELOPE_OF_ROW}82 > 0 -
-        S 0 D30702028281100181 > 0 01
-        S 0 D309900180020282819500 > 0 -
-        S 0 D309900181020282811500 > 0 01
+        {ENVELOPE_OF_ROW}80 > 0 - turns 01
+        {ENVELOPE_OF_ROW}82 > 0 - turns -
+        S 0 D30702028281100181 > 0 - turns 01
+        S 0 D309900180020282819500 > 0 - turns -
+        S 0 D309900181020282811500 > 0 - turns 01
         S 0 D30A90018102028281950100 > 1 -
         S 0 D303900181 > 1 -
         S 0 D30402028281 > 1 -
         S 0 D3087F0010018102028281 > 1 -
         S 0 D309820282819001807F00 > 1 -
-        S 0 D30C7F009001FF02028281900180 > 0 01
+        S 0 D30C7F009001FF02028281900180 > 0 - turns 01
         S 0 D3810782028281900180 > 1 -
         S 0 D3817F82028281900180 > 1 -
         S 0 D3078202828190018000 > 1 -
         S 0 D70982028281A400A40101 > 1 -
-        S 0 D70B82028281A40101A4020000 > 0 01
-        S 0 D70782028281A40101 > 0 01
+        S 0 D70B82028281A40101A4020000 > 0 - turns 01
+        S 0 D70782028281A40101 > 0 - turns 01
         S 0 D70682018281A40101 > 1 -
         S 0 > 1 -
         S 0 D3 > 1 -
         P 0 > 1 -
         L 1 > 0 -
-        {ENVELOPE_OF_ROW}80 > 0 -""",
+        {ENVELOPE_OF_ROW}80 > 0 - turns -""",
+    **ROUNDS,
 }

@@ -26,6 +26,8 @@ class Refusal(IntEnum):
     BUFFER_TOO_SMALL = 18
     NONE_OUTSTANDING = 19
     BAD_DURATION = 20
+    NO_ROUND = 21
+    ROUND_OPEN = 22
 
 
 class Refused(Exception):
@@ -53,7 +55,7 @@ class Answer(NamedTuple):
     refusal: int = Refusal.NONE
     number: int = 0
     yes: bool = False
-    called: tuple = ()
+    called: int = 0
     marks: Marks = Marks()
     data: bytes = b""
     items: tuple = ()

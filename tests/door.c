@@ -67,6 +67,7 @@ static struct toolkit_answer call(const struct request *r, struct toolkit_card *
     if (is(r, "envelope")) return toolkit_envelope(card, bytes, r->length);
     if (is(r, "status")) return toolkit_status(card);
     if (is(r, "settled")) return toolkit_settled(card);
+    if (is(r, "next")) return toolkit_next(card);
     if (is(r, "send")) return toolkit_send(card, r->applet, bytes, r->length);
     if (is(r, "system_command")) return toolkit_system_command(card, buffer, r->lent);
     return toolkit_response(card);

@@ -3,13 +3,15 @@
 import struct
 
 from model import CALL_CONTROL_EVENT
+from rounds import CHOICE, EVENT, EXPIRY, HELP, NOTHING, STATUS
 
 CALLS = ["install", "delete", "lock", "unlock", "set_event", "clear_event", "ask_event", "request_poll", "new_entry", "change_entry",
-         "enable_entry", "disable_entry", "allocate", "release", "profile", "envelope", "status", "settled", "send", "system_command", "response"]
-OF_NO_APPLET = {"profile", "envelope", "status", "settled", "system_command", "response"}
+         "enable_entry", "disable_entry", "allocate", "release", "profile", "envelope", "status", "settled", "next", "send", "system_command", "response"]
+OF_NO_APPLET = {"profile", "envelope", "status", "settled", "next", "system_command", "response"}
 NUMBERED = {"change_entry", "enable_entry", "disable_entry", "release"}
 VALUED = {"set_event", "clear_event", "ask_event", "request_poll"}
 DOORS = {"allocate": "allocate_timer", "release": "release_timer"}
+ARRIVAL_KINDS = [NOTHING, EVENT, CHOICE, HELP, EXPIRY, STATUS]
 EVENT_PLACES = [1, 7, 8, 9, 11, 12, 13, 14, 15, 16, 17, 18, 20, 21, 25, 26, 28, 29, -1, 123]
 
 
@@ -47,8 +49,7 @@ def text(value, most):
 
 
 def answer_bytes(answer):
-    called = padded([bytes([number]) for number in answer.called], 8, 1)
-    return bytes([answer.refusal, answer.number, answer.yes]) + called + bytes(answer.marks)
+    return bytes([answer.refusal, answer.number, answer.yes, answer.called, *answer.marks])
 
 
 def number_set(numbers):
@@ -75,8 +76,17 @@ def registered_bytes(applets):
                  for event in EVENT_PLACES)
 
 
+def round_bytes(turn):
+    """Whether one is open, what arrived by its kind and number, and who waits; zeros where none is."""
+    if turn is None:
+        return bytes(4)
+    kind, subject = turn.arrived
+    number = EVENT_PLACES.index(subject) if kind == EVENT else subject
+    return bytes([True, ARRIVAL_KINDS.index(kind), number, number_set(turn.waiting())])
+
+
 def card_bytes(card):
-    """The 468 bytes of this card: poll requests, sets and tables by number, timers, the roll, the rows, the terminal's side."""
+    """The 472 bytes of this card: poll requests, sets and tables by number, timers, the roll, the rows, the terminal's side, the round."""
     applets = card.applets
     selectable = number_set(number for number, applet in applets.items() if not applet.locked)
     made = bytes(sum(row.owner == number for row in card.rows) for number in range(1, 9))
@@ -86,7 +96,7 @@ def card_bytes(card):
     due = bytes([card.menu_due, card.events_due, card.interval_due, card.off_due])
     desk = due + bytes([card.session, card.outstanding, len(card.title)]) + card.title.ljust(20, b"\0") + card.terminal_profile
     return (polls + bytes([selectable]) + registered_bytes(applets) + bytes(control) + made + bytes(card.owners) + roll_bytes(applets)
-            + rows + desk)
+            + rows + desk + round_bytes(card.round))
 
 
 def menu_bytes(answer):

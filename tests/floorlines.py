@@ -1,12 +1,12 @@
-"""The floor program of document 01: records of 24 bytes in, one line for each out."""
+"""The floor program of documents 01 and 02: records of 24 bytes in, one line for each out."""
 
 from model import Card
 
 RECORD, ARGUMENTS = 24, 20
 NO_CALL = "- -"
 COUNTS = {"I": [12], "M": range(1, ARGUMENTS + 1), "E": [2], "C": [2],
-          "P": range(ARGUMENTS + 1), "S": range(ARGUMENTS + 1), **{letter: [0] for letter in "OWRTDLU"}}
-NAMES_NO_APPLET = "PSOWR"
+          "P": range(ARGUMENTS + 1), "S": range(ARGUMENTS + 1), **{letter: [0] for letter in "ONWRTDLU"}}
+NAMES_NO_APPLET = "PSONWR"
 
 
 def call_install(card, applet, arguments):
@@ -33,6 +33,7 @@ CALLS = {
     "P": lambda card, applet, arguments: card.profile(arguments),
     "S": lambda card, applet, arguments: card.envelope(arguments),
     "O": lambda card, applet, arguments: card.settled(),
+    "N": lambda card, applet, arguments: card.next(),
     "W": call_system_command,
     "R": lambda card, applet, arguments: card.response(),
     "T": lambda card, applet, arguments: card.allocate(applet),
@@ -42,9 +43,7 @@ CALLS = {
 }
 PRINTED = {"M": lambda answer: [answer.number] if answer.number else [],
            "T": lambda answer: [answer.number] if answer.number else [],
-           "P": lambda answer: answer.called,
-           "S": lambda answer: answer.called,
-           "O": lambda answer: answer.called,
+           "N": lambda answer: [answer.called] if answer.called else [],
            "W": lambda answer: answer.data}
 
 

@@ -10,6 +10,7 @@ from coding import (CALL_CONTROL, EVENT_DOWNLOAD, MENU_SELECTION, POLLING_OFF, P
                     SET_UP_EVENT_LIST, SET_UP_MENU, TEXT_LIMIT, TIMER_EXPIRATION, TIMER_MANAGEMENT, TITLE_LIMIT,
                     Answer, Marks, Refusal, Refused, content, find, read_command, read_envelope, read_menu,
                     refuse_if, write_events, write_interval, write_menu, write_polling_off)
+from rounds import CHOICE, EVENT, EXPIRY, HELP, NOTHING, STATUS, Arrived, Round, registered_for, turns
 
 __all__ = ["Answer", "Card", "Marks", "Refusal", "bank_allocate", "bank_release", "content", "find", "read_menu"]
 
@@ -26,6 +27,7 @@ EVENT_OF_CODE = {0x00: 12, 0x01: 13, 0x02: 14, 0x03: 15, 0x04: 16, 0x05: 17, 0x0
 EVENTS_BY_CALL = {PROFILE_DOWNLOAD_EVENT, CALL_CONTROL_EVENT, PROACTIVE_HANDLER_EVENT, UNRECOGNIZED_EVENT,
                   *EVENT_OF_CODE.values()}
 SYSTEM_TYPES = {SET_UP_MENU, SET_UP_EVENT_LIST, POLL_INTERVAL, POLLING_OFF}
+BY_SETTLED = Arrived(EVENT, PROACTIVE_HANDLER_EVENT)
 
 
 @dataclass
@@ -46,6 +48,18 @@ class Row(NamedTuple):
     text: bytes
     help: bool
     enabled: bool = True
+
+
+def arrived_by(envelope):
+    """What comes with an envelope; a download code that is not supported triggers nobody."""
+    if envelope.tag == MENU_SELECTION:
+        return Arrived(HELP if envelope.help else CHOICE, envelope.subject)
+    if envelope.tag == TIMER_EXPIRATION:
+        return Arrived(EXPIRY, envelope.subject)
+    if envelope.tag == EVENT_DOWNLOAD:
+        event = EVENT_OF_CODE.get(envelope.subject)
+        return Arrived(EVENT, event) if event else Arrived(NOTHING)
+    return Arrived(EVENT, CALL_CONTROL_EVENT if envelope.tag == CALL_CONTROL else UNRECOGNIZED_EVENT)
 
 
 def public(step):
@@ -73,7 +87,7 @@ class Card:
         self.made = Answer(Refusal.NONE if fits else Refusal.BAD_TEXT)
         self.title = bytes(title) if fits else b""
         self.applets, self.rows, self.owners = {}, [], [FREE] * len(TIMER_NUMBERS)
-        self.installs = 0
+        self.installs, self.round = 0, None
         self.terminal_profile = bytes(PROFILE_KEPT)
         self.session = self.outstanding = False
         self.menu_due = self.events_due = self.interval_due = self.off_due = False
@@ -89,15 +103,6 @@ class Card:
         """The system's poll interval in seconds: the smallest that a selectable applet requests, or none."""
         requests = [applet.poll for applet in self.applets.values() if not applet.locked and applet.poll != NO_POLLING]
         return min(requests, default=NO_POLLING)
-
-    def registered(self, event):
-        """The selectable applets registered for this event, in calling order."""
-        return self.in_order(number for number, applet in self.applets.items() if event in applet.events)
-
-    def in_order(self, numbers):
-        selectable = [(number, self.applets[number]) for number in numbers if not self.applets[number].locked]
-        selectable.sort(key=lambda entry: (entry[1].priority, -entry[1].installed))
-        return tuple(number for number, _ in selectable)
 
     def present(self, number):
         refuse_if(number not in self.applets, Refusal.NO_APPLET)
@@ -124,6 +129,8 @@ class Card:
         del self.applets[number]
         self.rows = [row for row in self.rows if row.owner != number]
         self.owners = [FREE if owner == number else owner for owner in self.owners]
+        if self.round:
+            self.round.registered.discard(number)
 
     @public
     def lock(self, number):
@@ -213,37 +220,40 @@ class Card:
         self.session, self.outstanding = True, False
         self.menu_due, self.events_due = bool(self.shown_menu()), bool(self.shown_events())
         self.interval_due, self.off_due = self.interval() != NO_POLLING, False
-        return Answer(called=self.registered(PROFILE_DOWNLOAD_EVENT), marks=Marks(proactive=True))
+        return self.opened(Arrived(EVENT, PROFILE_DOWNLOAD_EVENT), Marks(proactive=True))
+
+    def opened(self, arrived, marks):
+        """The answer to an arrival, whose round takes the place of any other."""
+        self.round = Round(arrived, registered_for(self, arrived))
+        return Answer(marks=marks)
 
     @public
     def envelope(self, data):
-        arrival = read_envelope(data)
-        response = arrival.tag not in (MENU_SELECTION, EVENT_DOWNLOAD, TIMER_EXPIRATION)
-        return Answer(called=self.called_by(arrival), marks=Marks(not self.outstanding, True, response))
-
-    def called_by(self, arrival):
-        if arrival.tag == MENU_SELECTION:
-            return self.in_order(row.owner for row in self.rows if row.identifier == arrival.subject
-                                 and row.enabled and (row.help or not arrival.help))
-        if arrival.tag == TIMER_EXPIRATION:
-            return self.in_order(owner for timer, owner in zip(TIMER_NUMBERS, self.owners)
-                                 if timer == arrival.subject and owner != FREE)
-        if arrival.tag == EVENT_DOWNLOAD:
-            return self.registered(EVENT_OF_CODE.get(arrival.subject))
-        return self.registered(CALL_CONTROL_EVENT if arrival.tag == CALL_CONTROL else UNRECOGNIZED_EVENT)
+        envelope = read_envelope(data)
+        response = envelope.tag not in (MENU_SELECTION, EVENT_DOWNLOAD, TIMER_EXPIRATION)
+        return self.opened(arrived_by(envelope), Marks(not self.outstanding, True, response))
 
     @public
     def status(self):
-        called = self.in_order(number for number, applet in self.applets.items() if applet.poll != NO_POLLING)
-        return Answer(called=called, marks=Marks(proactive=not self.outstanding))
+        return self.opened(Arrived(STATUS), Marks(proactive=not self.outstanding))
 
     @public
     def settled(self):
         refuse_if(self.outstanding, Refusal.OUTSTANDING)
-        called = self.registered(PROACTIVE_HANDLER_EVENT)
-        for number in called:
-            self.applets[number].events.remove(PROACTIVE_HANDLER_EVENT)
-        return Answer(called=called, marks=Marks(proactive=True))
+        refuse_if(self.round, Refusal.ROUND_OPEN)
+        return self.opened(BY_SETTLED, Marks(proactive=True))
+
+    @public
+    def next(self):
+        refuse_if(not self.round, Refusal.NO_ROUND)
+        left = turns(self)
+        if not left:
+            self.round = None
+            return Answer()
+        self.round.called.add(left[0])
+        if self.round.arrived == BY_SETTLED:
+            self.applets[left[0]].events.remove(PROACTIVE_HANDLER_EVENT)
+        return Answer(called=left[0])
 
     @public
     def send(self, number, data):

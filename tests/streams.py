@@ -5,18 +5,20 @@ import random
 import draws
 import model
 from coding import EVENT_DOWNLOAD, MENU_SELECTION, TIMER_EXPIRATION
+from detours import detours
 from draws import one_in
 from floorlines import ARGUMENTS, COUNTS, RECORD, outcome
 from model import (APPLET_NUMBERS, ENTRY_LIMIT, EVENT_OF_CODE, EVENTS_BY_CALL, EVENTS_NOT_BY_CALL,
                    FREE, PROACTIVE_HANDLER_EVENT, ROW_LIMIT, TIMER_NUMBERS, Card)
 
 LETTER_OF = {"install": "I", "new_entry": "M", "set_event": "E", "clear_event": "C", "profile": "P",
-             "envelope": "S", "settled": "O", "system_command": "W", "response": "R", "allocate": "T",
+             "envelope": "S", "settled": "O", "next": "N", "system_command": "W", "response": "R", "allocate": "T",
              "delete": "D", "lock": "L", "unlock": "U"}
 WEIGHTS = {"install": 8, "new_entry": 10, "set_event": 10, "clear_event": 3, "profile": 2, "envelope": 14,
-           "settled": 5, "system_command": 8, "response": 8, "allocate": 6, "delete": 1, "lock": 4, "unlock": 5}
+           "settled": 5, "next": 16, "system_command": 8, "response": 8, "allocate": 6, "delete": 1, "lock": 4, "unlock": 5}
 BESIDE_FLOOR = {"ask_event": 4, "request_poll": 8, "status": 4, "change_entry": 8, "enable_entry": 5, "disable_entry": 5,
                 "release": 4, "send": 6, "find": 6, "content": 3, "read_menu": 5, "bank_allocate": 4, "bank_release": 3}
+ARRIVALS = ("profile", "envelope", "status", "settled")
 ON_NO_CARD = ("find", "content", "read_menu", "bank_allocate", "bank_release")
 THEMES = [{},
           {"new_entry": 40, "install": 15, "system_command": 15, "response": 12},
@@ -37,21 +39,38 @@ class Draw:
         self.rng, self.card = random.Random(seed), Card(title)
         theme = self.rng.choice(THEMES)
         self.names, self.weights = list(weights), [theme.get(name, weight) for name, weight in weights.items()]
-        self.start = ["install"] * self.rng.randint(3, 8)
+        self.start, self.detour = ["install"] * self.rng.randint(3, 8), []
 
     def call(self):
         """A call as (name, inputs)."""
+        if not self.detour and self.waiting() and one_in(self.rng, 6):
+            self.detour = self.draw_detour(self.rng.choice(self.waiting()))
+        if self.detour:
+            return self.detour.pop(0)
         name = self.start.pop() if self.start else self.rng.choices(self.names, self.weights)[0]
         name = self.suited(name)
         return name, getattr(self, name)()
 
+    def waiting(self):
+        return sorted(self.card.round.waiting()) if self.card.round else []
+
+    def draw_detour(self, number):
+        """One of those that can be gone by the calls drawn here, up to some call of it."""
+        ways = [way for way in detours(self.card, number) if all(name in self.names for name, _ in way)]
+        way = self.rng.choice(ways)
+        return way[:self.rng.choice([1, len(way), len(way)])]
+
     def suited(self, name):
         if one_in(self.rng, 8):
             return name
+        if name == "next" and not self.card.round:
+            name = self.rng.choice(["envelope", "settled"])
         if name in ("system_command", "settled", "send") and self.card.outstanding:
             return "response"
         if name == "response" and not self.card.outstanding:
             return "system_command"
+        if self.card.round and (name == "settled" or name in ARRIVALS and one_in(self.rng, 2)):
+            return "next"
         full = {"install": len(self.card.applets) == len(APPLET_NUMBERS),
                 "new_entry": not self.with_entries_left(), "allocate": not self.with_timers_left()}
         return self.rng.choice(["envelope", "envelope", "set_event", "unlock"]) if full.get(name) else name
@@ -81,7 +100,7 @@ class Draw:
     def nothing(self):
         return ()
 
-    status = settled = response = nothing
+    status = settled = next = response = nothing
 
     def install(self):
         rng, applets = self.rng, self.card.applets

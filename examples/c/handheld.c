@@ -1,5 +1,5 @@
 /* A card operating system and a terminal in one, over the library: handheld RECORDS, keys on standard input. The card is made by a file of floor
-   records; those of a session (P, S, O, W, R) are left out, since it is led here. */
+   records; those of a session (P, S, O, N, W, R) are left out, since it is led here. */
 #include <stdio.h>
 #include <string.h>
 #include <unistd.h>
@@ -76,7 +76,7 @@ static void make(struct toolkit_card *card, FILE *records)
     uint8_t record[RECORD];
     size_t length;
     for (unsigned long number = 1; (length = fread(record, 1, RECORD, records)) != 0; number++) {
-        if (memchr("PSOWR", record[0], 5) != NULL)
+        if (memchr("PSONWR", record[0], 6) != NULL)
             continue;
         if (length < RECORD || !well_filled(record)) {
             printf("record %lu: no call\n", number);
@@ -88,23 +88,26 @@ static void make(struct toolkit_card *card, FILE *records)
     }
 }
 
-static void say_called(struct toolkit_answer answer)
+/* The round that an arrival has opened: a turn for each applet that next names, until it names nobody. */
+static void run_round(struct toolkit_card *card, const char *before, const char *nobody)
 {
-    if (answer.count == 0)
-        printf("the card calls nobody");
-    for (uint8_t i = 0; i < answer.count; i++)
-        printf("%s applet %u", i == 0 ? "the card calls" : ",", answer.called[i]);
+    uint8_t applet = toolkit_next(card).called;
+    if (applet == 0) {
+        printf("%s", nobody);
+        return;
+    }
+    printf("%sthe card calls applet %u", before, applet);
+    while ((applet = toolkit_next(card).called) != 0)
+        printf(", applet %u", applet);
     printf("\n");
 }
 
-/* Those called have returned, so those that wait for the proactive handler have their turn. */
-static void settle(struct toolkit_card *card)
+/* Those whom an arrival calls have their turns; when they have returned, those that wait for the proactive handler have theirs. */
+static void serve(struct toolkit_card *card)
 {
-    struct toolkit_answer answer = toolkit_settled(card);
-    if (answer.count == 0)
-        return;
-    printf("when they have returned ");
-    say_called(answer);
+    run_round(card, "", "the card calls nobody\n");
+    toolkit_settled(card);
+    run_round(card, "when they have returned ", "");
 }
 
 /* ---- The terminal ---- */
@@ -167,8 +170,8 @@ static void choose(struct toolkit_card *card, const struct toolkit_menu *menu, u
     printf(help ? "help on " : "chosen: ");
     put_text(item->text, item->len);
     printf(", identifier %u: ", item->identifier);
-    say_called(toolkit_envelope(card, selection, 2u + length));
-    settle(card);
+    toolkit_envelope(card, selection, 2u + length);
+    serve(card);
 }
 
 static void set_lock(struct toolkit_card *card, uint8_t applet, bool locked)
@@ -266,8 +269,8 @@ int main(int count, char **words)
     make(&card, records);
     fclose(records);
     printf("the handheld starts: ");
-    say_called(toolkit_profile(&card, profile, sizeof profile));
-    settle(&card);
+    toolkit_profile(&card, profile, sizeof profile);
+    serve(&card);
     fetch(&card, &menu);
     printf("%s", usage);
     while (prompt() && read_line(&line)) {

@@ -1,4 +1,4 @@
-/* Two packing stations that want a menu entry of the same title, and a tracker that STATUS wakes, as a card operating system would serve them. */
+/* Two packing stations that want a menu entry of the same title, and two trackers that STATUS wakes, as a card operating system would serve them. */
 #include <stdio.h>
 #include "toolkit.h"
 
@@ -20,9 +20,22 @@ static void print_answer(const char *call, struct toolkit_answer answer)
     printf("%-22s accepted", call);
     if (answer.number != 0)
         printf(", number %u", answer.number);
-    for (uint8_t i = 0; i < answer.count; i++)
-        printf(", calls applet %u", answer.called[i]);
     printf("\n");
+}
+
+static void run_round(struct toolkit_card *card)
+{
+    uint8_t applet;
+    while ((applet = toolkit_next(card).called) != 0)
+        printf("  calls applet %u\n", applet);
+}
+
+/* What follows an arrival: the turns of its round, and when everyone has returned those of the ones that wait for the proactive handler. */
+static void serve(struct toolkit_card *card)
+{
+    run_round(card);
+    toolkit_settled(card);
+    run_round(card);
 }
 
 static struct toolkit_answer choose(struct toolkit_card *card, uint8_t identifier)
@@ -31,7 +44,8 @@ static struct toolkit_answer choose(struct toolkit_card *card, uint8_t identifie
     return toolkit_envelope(card, menu_selection, sizeof menu_selection);
 }
 
-/* Applet 3 is woken by the terminal's STATUS, which comes every five minutes from the response on. */
+/* Applets 3 and 4 are to be woken by the terminal's STATUS, which comes every five minutes from the response on. The later installed comes
+   first, and locks the other, which has not had its turn and does not get it. */
 static void track(struct toolkit_card *card)
 {
     const struct toolkit_request tracker = {.priority = 5};
@@ -39,12 +53,18 @@ static void track(struct toolkit_card *card)
     uint8_t buffer[TOOLKIT_BUFFER];
 
     print_answer("install applet 3", toolkit_install(card, 3, tracker));
-    print_answer("polling for applet 3", toolkit_request_poll(card, 3, 300));
+    print_answer("install applet 4", toolkit_install(card, 4, tracker));
+    print_answer("polling for applet 3", toolkit_request_poll(card, 3, 600));
+    print_answer("polling for applet 4", toolkit_request_poll(card, 4, 300));
     answer = toolkit_system_command(card, buffer, sizeof buffer);
     print_answer("system command", answer);
     print_hex("poll interval", buffer, answer.number);
     print_answer("response", toolkit_response(card));
     print_answer("STATUS", toolkit_status(card));
+    printf("  calls applet %u\n", toolkit_next(card).called);
+    print_answer("  which locks applet 3", toolkit_lock(card, 3));
+    serve(card);
+    print_answer("a next too many", toolkit_next(card));
 }
 
 int main(void)
@@ -62,6 +82,7 @@ int main(void)
     print_answer("a second of applet 2", toolkit_new_entry(&card, 2, false, "Crate label", 11));
 
     print_answer("profile", toolkit_profile(&card, profile, sizeof profile));
+    serve(&card);
     answer = toolkit_system_command(&card, buffer, sizeof buffer);
     print_answer("system command", answer);
     print_hex("menu", buffer, answer.number);
@@ -72,10 +93,12 @@ int main(void)
         const struct toolkit_row *row = &card.rows.at[i];
         printf("row %u: %.*s\n", row->identifier, row->len, (const char *)row->text);
         print_answer("  is chosen", choose(&card, row->identifier));
+        serve(&card);
     }
 
     print_answer("timer for applet 2", toolkit_allocate_timer(&card, 2));
     print_answer("it expires", toolkit_envelope(&card, timer_expired, sizeof timer_expired));
+    serve(&card);
     print_answer("released by applet 1", toolkit_release_timer(&card, 1, 1));
     print_answer("released by applet 2", toolkit_release_timer(&card, 2, 1));
 

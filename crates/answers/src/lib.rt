@@ -2,9 +2,10 @@
 // What it holds of each answer stands in `rules`, specs/Held.antt.
 use rules::Answer;
 use rules::Marks;
-use rules::Roll;
 ghost use mathlib.Core.Path.{_≡_};
+ghost use mathlib.Core.Bool.{false};
 ghost use Rattle.lists.specs.Tests.{if_then_else_, _==_};
+ghost use Rattle.rules.specs.Arrivals.{noMarks};
 ghost use Rattle.rules.specs.Calls.{plainly, refusedWith, numbered, saying};
 ghost use Rattle.rules.specs.Held.{storedAnswer};
 
@@ -16,8 +17,7 @@ fn plain(refusal: u8, number: u8, says: bool) -> Answer
         refusal,
         number,
         says,
-        called: [0; Roll::APPLETS],
-        count: 0,
+        called: 0,
         marks: Marks {
             proactive: false,
             envelope: false,
@@ -51,4 +51,13 @@ pub fn of_yes_or_no(refusal: u8, yes: bool) -> Answer
         return plain(0, 0, yes);
     }
     plain(refusal, 0, false)
+}
+
+// The refusal, or the one called; 0 where nobody is.
+pub fn of_called(refusal: u8, called: u8) -> Answer
+    ensures { λ r. ⌜ r ≡ record { refusal = refusal; number = 0; says = false; called = called; marks = noMarks } ⌝ }
+{
+    let mut answer = plain(refusal, 0, false);
+    answer.called = called;
+    answer
 }

@@ -1,4 +1,4 @@
--- The order of call is the document's; the applets by number; what an install, a delete and a settled moment leave of them; tables by number with one value changed.
+-- The order of call is the document's; the applets by number; what an install and a delete leave of them; tables by number with one value changed.
 pub mod Promise
 pub mod Order
 pub mod Numbers
@@ -6,4 +6,3 @@ pub mod InSet
 pub mod Joined
 pub mod Removed
 pub mod Made
-pub mod Settled

@@ -27,22 +27,23 @@ use Rattle.rules.specs.declared.Grant.{Grant}
 use Rattle.rules.specs.declared.Roll.{Roll}
 use Rattle.rules.specs.Holds.{Applet}
 use Rattle.rules.specs.Applets.{hasNumber, nobody, inOrder}
-use Rattle.applets.specs.declared.Callees.{Callees}
+use Rattle.rules.proofs.Listed.{every-inOrder}
+use Rattle.applets.specs.declared.Lineup.{Lineup}
 use Rattle.applets.specs.ByNumber.{at, grantOf, rollOf, selectableSet, registeredSet, madeTable, pollTable, tableWith}
-use Rattle.applets.specs.Rolls.{calleesOf, rollWithout}
+use Rattle.applets.specs.Rolls.{lineupOf, rollWithout}
 use Rattle.applets.proofs.Made.{with-one}
-use Rattle.applets.proofs.Order.{keep-order, length-order, every-order}
+use Rattle.applets.proofs.Order.{keep-order, length-order}
 
 -- the roll by its parts
 pub roll-parts
-    : (s : Roll) (n : ℕ) {own present : ℕ} {age order : Callees} {none : Grant}
+    : (s : Roll) (n : ℕ) {own present : ℕ} {age order : Lineup} {none : Grant}
     → own ≡ single n
     → present ≡ setWithout (s .present) own
-    → order ≡ calleesOf (keep (has? present) (take (s .count) (s .order)))
-    → age ≡ calleesOf (keep (has? present) (take (s .count) (s .age)))
+    → order ≡ lineupOf (keep (has? present) (take (s .count) (s .order)))
+    → age ≡ lineupOf (keep (has? present) (take (s .count) (s .age)))
     → none ≡ grantOf nobody
     → _≡_ {A = Roll} (record { present = present; count = age .count; age = age .at; order = order .at; grants = set (s .grants) (n - 1) none }) (rollWithout s n)
-unfolding rollWithout calleesOf
+unfolding rollWithout lineupOf
 roll-parts s n o p q r z = rw (r, q, p, o, z) refl
 
 abbrev numbersOf : List Applet → List ℕ
@@ -165,7 +166,7 @@ module _ (l : List Applet) (n : ℕ) (low : 1 ≤ n) (in-range : Every (λ (x : 
   order-less =
       ap (λ (k : ℕ). keep (has? gone) (take k (padded 8 0 (numbersOf (inOrder l))))) (sym (map-length (λ (x : Applet). x .number) (inOrder l) ∙ length-order l))
       ∙ ap (keep (has? gone)) (take-padded 8 0 (numbersOf (inOrder l)))
-      ∙ kept-numbers (inOrder l) (every-order _ l stays-are)
+      ∙ kept-numbers (inOrder l) (every-inOrder _ l stays-are)
       ∙ sym (ap numbersOf (keep-order stay l))
 
   pub roll-less : rollWithout (rollOf l) n ≡ rollOf (less l n)

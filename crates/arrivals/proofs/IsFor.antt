@@ -1,11 +1,11 @@
 -- The sets of those whom arrivals are for, by the rules.
 -- Assumes nothing.
-use Prim.Native.Nat.{ℕ, _≤_, _<_}
+use Prim.Native.Nat.{ℕ, zero, suc, _≤_, _<_}
 use native.Mathlib.Omega.{arith}
-use mathlib.Core.Path.{_≡_, refl, sym, ap, subst, _∙_}
-use mathlib.Core.Bool.{Bool, true, false}
+use mathlib.Core.Path.{_≡_, refl, sym, ap, _∙_}
+use mathlib.Core.Bool.{Bool, true, false, not}
 use mathlib.Core.List.{List}
-use lib.ListN.{getD}
+use lib.ListN.{length, getD, List·getD-eq-default}
 use borrow.Author.Tests.{ne-eqb}
 use Rattle.lists.specs.Tests.{_==_}
 use Rattle.lists.specs.Tables.{table}
@@ -13,21 +13,24 @@ use Rattle.lists.proofs.Decided.{turned}
 use Rattle.lists.proofs.Tables.{table-at}
 use Rattle.sets.specs.Sets.{has?, setOf, single}
 use Rattle.sets.proofs.Bits.{has-set, has-empty}
-use Rattle.rules.specs.declared.Kind.{Kind}
-use Rattle.rules.specs.declared.Kind.the-variants.{Event}
-use Rattle.rules.specs.declared.Envelope.{Envelope}
-use Rattle.rules.specs.declared.Envelope.the-variants.{Menu, Call, Expiry, Unrecognized, Malformed}
-use Rattle.rules.specs.Holds.{Applet, Row, Tables}
-use Rattle.rules.specs.Events.{callControl, unrecognizedEnvelope, codes, named, kindOfCode}
-use Rattle.rules.specs.Applets.{registered}
+use Rattle.rules.specs.declared.Envelope.the-variants.{Menu}
+use Rattle.rules.specs.Holds.{Applet, Row, Tables, Arrival, event, choice, help, expiry, status, nothing}
+use Rattle.rules.specs.Events.{callControl}
+use Rattle.rules.specs.Applets.{applet, present, registered}
 use Rattle.rules.specs.Timers.{ownerOf}
-use Rattle.rules.specs.Arrivals.{Arrival, event, choice, help, expiry, nothing, download, arrivalOf, wants}
+use Rattle.rules.specs.Arrivals.{arrivalOf, wants}
 use Rattle.runs.specs.Sound.{SoundTables}
-use Rattle.events.proofs.Places.{Among, named-among}
-use Rattle.applets.specs.ByNumber.{at, registeredSet}
+use Rattle.runs.proofs.Looked.{sound-applet, absent-nobody}
+use Rattle.applets.specs.ByNumber.{at, byNumber, registeredSet, pollTable}
 use Rattle.menu_shown.specs.Chosen.{chosenOwner}
 use Rattle.menu_shown.proofs.Promise.{choice-calls, help-calls}
-use Rattle.arrivals.specs.Whom.{IsFor, ForCode}
+use Rattle.polling.specs.Polls.{pollingSet}
+use Rattle.arrivals.specs.Whom.{IsFor, Registered}
+
+-- what a table by number holds of one of 1 to 8
+by-table : (l : List Applet) (f : Applet → ℕ) (k : ℕ) → 1 ≤ k → k ≤ 8 → byNumber 0 (table 8 (λ i. f (at l (suc i)))) k ≡ f (at l k)
+by-table l f zero low high = absurd (omega arith)
+by-table l f (suc i) low high = table-at 8 (λ i. f (at l (suc i))) i 0 (omega arith)
 
 module _ (t : Tables) where
   abbrev l : List Applet
@@ -62,51 +65,68 @@ module _ (t : Tables) where
           ∙ has-set (λ n. getD (at l n .events) e false) k low high
           ∙ rw (ne-eqb e callControl other) refl
 
--- AN EVENT DOWNLOAD
--- a place that a code names
-pub code-place : (code place : ℕ) {k : Kind} → k ≡ kindOfCode code → k ≡ Event place → (5 ≤ place) × (place < 18)
-unfolding kindOfCode codes named
-code-place code place e v = subst (Among 5 13) (sym e ∙ v) (named-among (λ (k : ℕ). code == k) 5 codes)
+  -- a number that is found is there
+  found : (k : ℕ) → 1 ≤ k → at l k .number ≡ k → present t k ≡ true
+  found k low there = go (present t k) refl
+    where
+      go : (b : Bool) → present t k ≡ b → b ≡ true
+      go true e = refl
+      go false e =
+          let none : at l k .number ≡ 0 = unfold applet in ap (λ (x : Applet). x .number) (absent-nobody t k e) in
+          absurd (omega arith)
 
-pub code-for
-    : (g : List ℕ) (code place : ℕ) {k : Kind} {s : ℕ} → k ≡ kindOfCode code → k ≡ Event place → s ≡ getD g place 0 → ForCode g code s
-unfolding download
-code-for g code place e v h t q =
-    let p = code-place code place e v in
-    for-as t (ap download (sym e ∙ v)) (rw h (for-event t q place (omega arith) (λ z. omega arith)))
+  -- an event that there is none of
+  far-for : SoundTables t → (e : ℕ) → 20 ≤ e → IsFor t (event e) 0
+  unfolding wants registered
+  far-for sound e past = record { each = one }
+    where
+      one : (k : ℕ) → 1 ≤ k → k ≤ 8 → at l k .number ≡ k → has? 0 k ≡ wants t (event e) (at l k)
+      one k low high there =
+          let long : length (at l k .events) ≡ 20 = unfold applet in sound-applet t sound k (found k low there) .events in
+          has-empty k
+          ∙ sym (List·getD-eq-default (at l k .events) false {n = e} (omega (arith, long)))
+          ∙ rw (ne-eqb e callControl (λ z. omega arith)) refl
 
-pub code-nobody : (g : List ℕ) (code : ℕ) {k y : Kind} → k ≡ kindOfCode code → k ≡ y → download y ≡ nothing → ForCode g code 0
-unfolding wants
-code-nobody g code e v n t q = for-as t (ap download (sym e ∙ v) ∙ n) (for-nobody t nothing (λ x. refl))
+-- THOSE REGISTERED for an event
+module _ (g : List ℕ) (control e : ℕ) where
+  pub control-for : e ≡ callControl → {s : ℕ} → s ≡ single control → Registered g control e s
+  unfolding wants registered
+  control-for z f t sound q o = rw (z, f, ← o) (for-one t (event callControl) (t .control) (λ x k. refl))
 
--- AN ENVELOPE, by the variant that it is known at
+  pub place-for : (e ≡ callControl → ⊥) → e < 20 → Registered g control e (getD g e 0)
+  place-for other within t sound q o = for-event t q e within other
+
+  pub past-for : 20 ≤ e → Registered g control e 0
+  past-for past t sound q o = far-for t sound e past
+
+-- ANY ARRIVAL, by what it is kept as
 module _ (t : Tables) where
-  pub envelope-as : {e y : Envelope} {s : ℕ} → e ≡ y → IsFor t (arrivalOf y) s → IsFor t (arrivalOf e) s
-  envelope-as v h = for-as t (ap arrivalOf v) h
-
-  pub item-for
+  pub row-for
       : SoundTables t → {rows : List Row} → t .rows ≡ rows → (item : ℕ) (h : Bool) {o s : ℕ}
       → o ≡ chosenOwner item h rows
       → s ≡ single o
       → IsFor t (arrivalOf (Menu item h)) s
   unfolding arrivalOf
-  item-for sound q item false e f =
+  row-for sound q item false e f =
       rw (f, e, ← q) (for-one t (choice item) (chosenOwner item false (t .rows)) (λ x k. choice-calls t item x (sound .identifiers-apart) k))
-  item-for sound q item true e f =
+  row-for sound q item true e f =
       rw (f, e, ← q) (for-one t (help item) (chosenOwner item true (t .rows)) (λ x k. help-calls t item x (sound .identifiers-apart) k))
 
-  pub control-for : {control s : ℕ} → t .control ≡ control → s ≡ single control → IsFor t (arrivalOf Call) s
-  unfolding arrivalOf wants registered
-  control-for q f = rw (f, ← q) (for-one t (event callControl) (t .control) (λ x k. refl))
-
-  pub expiry-for : {owners : List ℕ} → t .timers ≡ owners → (timer : ℕ) {o s : ℕ} → o ≡ ownerOf owners timer → s ≡ single o → IsFor t (arrivalOf (Expiry timer)) s
-  unfolding arrivalOf wants
+  pub expiry-for : {owners : List ℕ} → t .timers ≡ owners → (timer : ℕ) {o s : ℕ} → o ≡ ownerOf owners timer → s ≡ single o → IsFor t (expiry timer) s
+  unfolding wants
   expiry-for q timer e f = rw (f, e, ← q) (for-one t (expiry timer) (ownerOf (t .timers) timer) (λ x k. refl))
 
-  pub other-for : {g : List ℕ} → g ≡ table 20 (registeredSet (t .applets)) → IsFor t (arrivalOf Unrecognized) (getD g unrecognizedEnvelope 0)
-  unfolding arrivalOf
-  other-for q = for-event t q unrecognizedEnvelope (omega arith) (λ z. omega arith)
+  pub status-for : {polls : List ℕ} → polls ≡ pollTable (t .applets) → {s : ℕ} → s ≡ pollingSet polls → IsFor t status s
+  status-for {polls} q {s} e = record { each = one }
+    where
+      one : (k : ℕ) → 1 ≤ k → k ≤ 8 → at (t .applets) k .number ≡ k → has? s k ≡ wants t status (at (t .applets) k)
+      one k low high there =
+          unfold pollingSet pollTable wants in
+          (ap (λ (j : ℕ). has? j k) e
+          ∙ has-set (λ n. not (byNumber 0 polls n == 0)) k low high
+          ∙ ap (λ (p : List ℕ). not (byNumber 0 p k == 0)) q
+          ∙ ap (λ (j : ℕ). not (j == 0)) (by-table (t .applets) (λ (x : Applet). x .poll) k low high))
 
-  pub malformed-for : IsFor t (arrivalOf Malformed) 0
-  unfolding arrivalOf wants
-  malformed-for = for-nobody t nothing (λ x. refl)
+  pub nothing-for : IsFor t nothing 0
+  unfolding wants
+  nothing-for = for-nobody t nothing (λ x. refl)

@@ -12,11 +12,10 @@ use Rattle.rules.specs.Holds.{Tables, Desk}
 use Rattle.rules.specs.Arrivals.{noMarks}
 use Rattle.rules.specs.Desk.{dueAtFirst, withProfile}
 use Rattle.rules.specs.Held.{storedDesk}
-use Rattle.applets.specs.declared.Callees.{Callees}
 
--- the refusal's number, those called, and the marks, of which there are none with a refusal
-abbrev pub answering : (refusal : ℕ) → Callees → Marks → Answer
-answering r c marks = record { refusal = r; number = 0; says = false; called = c .at; count = c .count; marks = if r == 0 then marks else noMarks }
+-- the refusal's number and the marks, of which there are none with a refusal
+abbrev pub answering : (refusal : ℕ) → Marks → Answer
+answering r marks = record { refusal = r; number = 0; says = false; called = 0; marks = if r == 0 then marks else noMarks }
 
 -- r is the desk k after a profile, on every card where what is due is what is not empty
 abbrev pub Begins : (bytes : List ℕ) → Due → (k r : held.Desk) → Type 0

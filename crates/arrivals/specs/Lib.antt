@@ -1,3 +1,4 @@
--- Whom an arrival is for, as a set; the answer, and the desk after a profile.
+-- Whom an arrival is for, as a set; the round; the answer, and the desk after a profile.
 pub mod Whom
+pub mod Rounds
 pub mod Answers

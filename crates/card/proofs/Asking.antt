@@ -19,7 +19,7 @@ use Rattle.rules.specs.Events.{kindOf, callControl}
 use Rattle.rules.specs.Applets.{present, applet, registered, isRegistered}
 use Rattle.rules.specs.Calls.{event, askEvent, saying, refusedWith}
 use Rattle.rules.specs.Refusals.{lines, eventLines, refusal}
-use Rattle.rules.specs.Step.{step, outcome, tablesAfter, eventTables, deskAfter, answer, eventAnswer}
+use Rattle.rules.specs.Step.{step, outcome, tablesAfter, eventTables, deskAfter, answer, eventAnswer, roundAfter}
 use Rattle.events.specs.Place.{placeOf}
 use Rattle.events.proofs.Places.{place-within}
 use Rattle.runs.proofs.Looked.{has-its-number, number-from, number-to}
@@ -37,8 +37,8 @@ use Rattle.card.proofs.Present.{present-by, gone-by}
 use Rattle.card.proofs.Listeners.{set-is}
 
 pub ask-stays : (c : Card) → Left c → (n : ℕ) (v : ℤ) → c ≡ stored (step (view c) (event (askEvent n v)) .after)
-unfolding tablesAfter eventTables deskAfter
-ask-stays c left n v = stays c left (event (askEvent n v)) refl refl
+unfolding tablesAfter eventTables deskAfter roundAfter
+ask-stays c left n v = stays c left (event (askEvent n v)) refl (refl, refl)
 
 module _
     (c : Card) (left : Left c) (n : ℕ) (v : ℤ) {k : Kind} (kind : k ≡ kindOf v)

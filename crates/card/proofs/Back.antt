@@ -2,7 +2,7 @@
 -- Assumes nothing.
 use Prim.Native.Nat.{ℕ, suc, _-_, _≤_, _<_}
 use native.Mathlib.Omega.{arith}
-use mathlib.Core.Path.{_≡_, refl, sym, ap, ap₂, _∙_}
+use mathlib.Core.Path.{_≡_, refl, sym, ap, ap₂, subst, _∙_}
 use mathlib.Core.Bool.{false}
 use mathlib.Core.List.{List, [], _∷_, map}
 use lib.ListN.{length, take, getD}
@@ -18,10 +18,11 @@ use Rattle.rules.specs.Holds.{Applet, Bounds, Tables, Model, document}
 use Rattle.rules.specs.Applets.{nobody, applet}
 use Rattle.rules.specs.Rows.{noPair}
 use Rattle.rules.proofs.Held.{rows-back, desk-back}
-use Rattle.runs.specs.Sound.{SoundApplet, Sound}
+use Rattle.runs.specs.Sound.{SoundApplet, SoundRound, Sound}
 use Rattle.runs.proofs.Looked.{each-found}
 use Rattle.applets.specs.ByNumber.{at, grantOf, appletBy, rollOf, selectableSet, registeredSet, madeTable, pollTable}
 use Rattle.applets.proofs.Numbers.{by-number}
+use Rattle.arrivals.proofs.Waiting.{round-back}
 use Rattle.card.specs.View.{stored, appletOf, view}
 
 -- each by its number
@@ -82,4 +83,4 @@ module _ (m : Model) (sound : Sound m) (e : m .tables .bounds ≡ document) wher
 
   pub view-stored : view (stored m) ≡ m
   unfolding view stored
-  view-stored = rw (applets-back, rows-back (m .tables .rows), desk-back (m .desk), sym e) refl
+  view-stored = rw (applets-back, rows-back (m .tables .rows), desk-back (m .desk), round-back (m .round) (subst (λ (b : Bounds). SoundRound b (m .round)) e (sound .round)), sym e) refl

@@ -24,7 +24,8 @@ use Rattle.rules.specs.Timers.{withoutTimers}
 use Rattle.rules.specs.Calls.{admin, delete, accepted, refusedWith}
 use Rattle.rules.specs.Desk.{menuChanges, eventsChange, marked}
 use Rattle.rules.specs.Refusals.{lines, firstHolding, adminLines, refusal}
-use Rattle.rules.specs.Step.{step, tablesAfter, adminTables, deskAfter, answer}
+use Rattle.rules.specs.Rounds.{without}
+use Rattle.rules.specs.Step.{step, tablesAfter, adminTables, deskAfter, answer, roundAfter, adminRound}
 use Rattle.runs.specs.Sound.{SoundApplet, SoundTables}
 use Rattle.runs.proofs.Altered.{admin-sound}
 use Rattle.runs.proofs.Looked.{not-absent}
@@ -44,7 +45,7 @@ use Rattle.card.specs.Replies.{replied}
 use Rattle.card.proofs.Left.{left-sound, left-bounds}
 use Rattle.card.proofs.Marks.{withDue, MenuMark, EventsMark, PollingMarks, all-desk}
 use Rattle.card.proofs.Polled.{marks-then}
-use Rattle.card.proofs.Replied.{after-by, plain-reply, refused-stays, card-is, roll-form, selectable-form, registered-form, made-form, polls-form}
+use Rattle.card.proofs.Replied.{after-with, plain-reply, refused-stays, card-is, roll-form, selectable-form, registered-form, made-form, polls-form, round-less}
 use Rattle.card.proofs.Present.{present-by, gone-by, low-is, selectable-there}
 use Rattle.card.proofs.Listeners.{set-is, codes-by}
 
@@ -133,7 +134,7 @@ module _ (c : Card) (left : Left c) (n : ℕ) (there : has? (c .roll .present) n
           ∙ ap₂ meets (sym (set-is c left e (omega arith))) (sym (turned-without (c .selectable) n))
 
   pub removes
-      : {s control : ℕ} {g f j : List ℕ} {menu events x y : Bool} {p : Polling} {roll : Roll} {rows : Rows} {bank : Bank}
+      : {s control w : ℕ} {g f j : List ℕ} {menu events x y : Bool} {p : Polling} {roll : Roll} {rows : Rows} {bank : Bank}
       → s ≡ is
       → menu ≡ (true && (not (Bool·beq (has? (c .selectable) n) false) && hasEnabledRow n (viewRows (c .rows))))
       → events ≡ anyCode (codeTurns (c .registered) (c .selectable) s)
@@ -147,11 +148,13 @@ module _ (c : Card) (left : Left c) (n : ℕ) (there : has? (c .roll .present) n
       → bank .owner ≡ withoutTimers n (c .bank .owner)
       → control ≡ forget n (c .control)
       → rows ≡ storedRows (withoutRows n (viewRows (c .rows)))
+      → w ≡ switchedSet (c .round .waiting) n false
       → _≡_ {A = Card}
-      (record { roll = roll; selectable = s; registered = g; made = f; polls = j; control = control; rows = rows; bank = bank; desk = withDue (c .desk) x y (p .interval) (p .off) })
-      (stored (record { tables = u; desk = marked t u (m .desk) }))
-  removes ss mv ev pv mx my rl rg md pl bk ct rs =
-      card-is (record { tables = u; desk = marked t u (m .desk) })
+      (record { roll = roll; selectable = s; registered = g; made = f; polls = j; control = control; rows = rows; bank = bank; desk = withDue (c .desk) x y (p .interval) (p .off); round = record { «open» = c .round .«open»; arrived = c .round .arrived; waiting = w } })
+      (stored (record { tables = u; desk = marked t u (m .desk); round = without n (m .round) }))
+  removes ss mv ev pv mx my rl rg md pl bk ct rs wt =
+      card-is (record { tables = u; desk = marked t u (m .desk); round = without n (m .round) })
+      (ap (λ (w : ℕ). record { «open» = c .round .«open»; arrived = c .round .arrived; waiting = w }) wt ∙ round-less c left n)
       (rl ∙ roll-next) (ss ∙ selectable-next) (rg ∙ registered-next) (md ∙ made-next) (pl ∙ polls-next)
       (ct ∙ control-next) (rs ∙ rows-next) (bk ∙ timers-next)
       (all-desk c left u (sym (mv ∙ menu-differs)) (sym (ev ∙ ap (λ (k : ℕ). anyCode (codeTurns (c .registered) (c .selectable) k)) ss ∙ events-differ)) mx my (polling-differs pv))
@@ -183,12 +186,12 @@ module _ (c : Card) (left : Left c) (n : ℕ) {there : Bool} (found : there ≡ 
   Says k a = _≡_ {A = Reply} (record { card = k; answer = a }) (replied (step (view c) (admin (delete n))))
 
   pub deletes : {k : Card} {a : Answer} → there ≡ true
-      → k ≡ stored (record { tables = adminTables (view c .tables) (delete n); desk = marked (view c .tables) (adminTables (view c .tables) (delete n)) (view c .desk) })
+      → k ≡ stored (record { tables = adminTables (view c .tables) (delete n); desk = marked (view c .tables) (adminTables (view c .tables) (delete n)) (view c .desk); round = without n (view c .round) })
       → a ≡ storedAnswer (refusedWith r) → Says k a
-  unfolding tablesAfter
+  unfolding tablesAfter roundAfter adminRound
   deletes h q e =
       let z : r ≡ 0 = refused ∙ rw h refl in
-      plain-reply (view c) (admin (delete n)) refusal-is plain (q ∙ ap stored (sym (after-by (view c) (admin (delete n)) refusal-is still (rw z refl)))) e
+      plain-reply (view c) (admin (delete n)) refusal-is plain (q ∙ ap stored (sym (after-with (view c) (admin (delete n)) refusal-is still (rw z refl) (rw z refl)))) e
 
   pub deletes-none : {k : Card} {a : Answer} → there ≡ false → k ≡ c → a ≡ storedAnswer (refusedWith r) → Says k a
   deletes-none h q e =

@@ -26,7 +26,7 @@ use Rattle.rules.specs.Rows.{itsRow, withText, withEnabled}
 use Rattle.rules.specs.Desk.{menuChanges, marked}
 use Rattle.rules.specs.Calls.{EntryCall, entry, changeEntry, accepted, refusedWith}
 use Rattle.rules.specs.Refusals.{line, firstHolding, refusal}
-use Rattle.rules.specs.Step.{step, tablesAfter, deskAfter, entryTables, answer, entryAnswer}
+use Rattle.rules.specs.Step.{step, tablesAfter, deskAfter, entryTables, answer, entryAnswer, roundAfter}
 use Rattle.runs.specs.Sound.{SoundRow, SoundTables}
 use Rattle.runs.proofs.Looked.{sound-applet}
 use Rattle.runs.proofs.Filled.{ChangesEntry, changes-entry}
@@ -44,13 +44,13 @@ use Rattle.card.specs.Replies.{replied}
 use Rattle.card.proofs.Left.{left-sound, left-bounds}
 use Rattle.card.proofs.Marks.{Turns, withMenuDue, MenuMark, menu-desk}
 use Rattle.card.proofs.Turned.{nothing-turns, rows-turn-menu}
-use Rattle.card.proofs.Replied.{tablesBy, after-by, plain-reply, card-is, roll-form, selectable-form, registered-form, made-form, polls-form, control-form, bank-form}
+use Rattle.card.proofs.Replied.{tablesBy, after-by, plain-reply, card-is, roll-form, selectable-form, registered-form, made-form, polls-form, control-form, bank-form, round-form}
 use Rattle.card.proofs.Present.{present-by, found-by, grant-is, selectable-there}
 
 -- THE CARD AFTER A CALL ABOUT ENTRIES: the rows, how many entries are made, and whether the menu is due
 abbrev pub withEntries : Card → (made : List ℕ) → Rows → (due : Bool) → Card
 withEntries c made rows due =
-    record { roll = c .roll; selectable = c .selectable; registered = c .registered; made = made; polls = c .polls; control = c .control; rows = rows; bank = c .bank; desk = withMenuDue (c .desk) due }
+    record { roll = c .roll; selectable = c .selectable; registered = c .registered; made = made; polls = c .polls; control = c .control; rows = rows; bank = c .bank; desk = withMenuDue (c .desk) due; round = c .round }
 
 module _ (c : Card) (left : Left c) (u : Tables) where
   abbrev t : Tables
@@ -68,9 +68,9 @@ module _ (c : Card) (left : Left c) (u : Tables) where
       → next ≡ storedRows (u .rows)
       → Turns t u turns false
       → MenuMark (c .desk) turns x
-      → withEntries c made next x ≡ stored (record { tables = u; desk = marked t u (view c .desk) })
+      → withEntries c made next x ≡ stored (record { tables = u; desk = marked t u (view c .desk); round = view c .round })
   entry-card roll sel reg polls own timers many rows turns x =
-      card-is (record { tables = u; desk = marked t u (view c .desk) })
+      card-is (record { tables = u; desk = marked t u (view c .desk); round = view c .round }) (round-form c left)
       (roll-form c left ∙ sym roll) (selectable-form c left ∙ sym sel) (registered-form c left ∙ table-alike 20 _ _ (λ e h. sym (reg e))) many (polls-form c left ∙ sym polls)
       (control-form c left ∙ sym own) rows (bank-form c left ∙ sym timers)
       (menu-desk c left u turns x)
@@ -88,11 +88,11 @@ module _ (c : Card) (left : Left c) (n : ℕ) (y : EntryCall) {r : ℕ} (e : r �
   where
     rows-left : (rows : List Row) → tablesBy (view c) (entry y) r ≡ withRows (view c .tables) rows → Turns (view c .tables) (withRows (view c .tables) rows) (shown && w .turns) false → w .rows ≡ storedRows rows
         → _≡_ {A = Reply} (record { card = withEntries c (c .made) (w .rows) x; answer = a }) (replied (step (view c) (entry y)))
-    unfolding answer deskAfter
+    unfolding answer deskAfter roundAfter
     rows-left rows ts turns nx =
         plain-reply (view c) (entry y) e plain
         (entry-card c left (withRows (view c .tables) rows) refl refl (λ e. refl) refl refl refl (made-form c left) nx turns due
-        ∙ ap stored (sym (after-by (view c) (entry y) e refl ts)))
+        ∙ ap stored (sym (after-by (view c) (entry y) e (refl, refl) ts)))
         says
 
     rows-kept : (r ≡ 0 → ⊥) → w .rows ≡ storedRows (view c .tables .rows) → w .turns ≡ false → _≡_ {A = Reply} (record { card = withEntries c (c .made) (w .rows) x; answer = a }) (replied (step (view c) (entry y)))

@@ -27,7 +27,7 @@ use Rattle.rules.specs.Applets.{hasNumber, present, applet, forget, register, w
 use Rattle.rules.specs.Calls.{EventCall, event, setEvent, clearEvent, accepted, refusedWith}
 use Rattle.rules.specs.Desk.{eventsChange, marked}
 use Rattle.rules.specs.Refusals.{line, lines, absent, eventLines, refusal}
-use Rattle.rules.specs.Step.{step, tablesAfter, eventTables, deskAfter, answer, eventAnswer}
+use Rattle.rules.specs.Step.{step, tablesAfter, eventTables, deskAfter, answer, eventAnswer, roundAfter}
 use Rattle.events.specs.Place.{placeOf}
 use Rattle.events.proofs.Places.{place-within}
 use Rattle.runs.specs.Sound.{SoundTables}
@@ -49,7 +49,7 @@ use Rattle.card.proofs.Marks.{Turns, withEventsDue, EventsMark, events-
 use Rattle.card.proofs.Turned.{nothing-turns, registration-turns-events}
 use Rattle.card.proofs.Present.{present-by, found-by}
 use Rattle.card.proofs.Listeners.{set-is, event-by}
-use Rattle.card.proofs.Replied.{tablesBy, after-by, plain-reply, next-card, selectable-form, registered-form, control-form}
+use Rattle.card.proofs.Replied.{tablesBy, after-by, plain-reply, next-card, selectable-form, registered-form, control-form, Still}
 
 -- set event, or clear event, and its refusal
 abbrev turning : (applet : ℕ) (value : ℤ) → Bool → EventCall
@@ -67,7 +67,7 @@ turn-refusal-is m n v false e f = rw (e, ← not-not (absent (m .tables) n), f) 
 -- THE CARD AFTER A CALL ABOUT EVENTS: who is registered, the owner of call control, and whether the event list is due
 abbrev withEvents : Card → (registered : List ℕ) → (control : ℕ) → (due : Bool) → Card
 withEvents c registered control due =
-    record { roll = c .roll; selectable = c .selectable; registered = registered; made = c .made; polls = c .polls; control = control; rows = c .rows; bank = c .bank; desk = withEventsDue (c .desk) due }
+    record { roll = c .roll; selectable = c .selectable; registered = registered; made = c .made; polls = c .polls; control = control; rows = c .rows; bank = c .bank; desk = withEventsDue (c .desk) due; round = c .round }
 
 module _ (c : Card) (left : Left c) (u : Tables) where
   abbrev t : Tables
@@ -85,7 +85,7 @@ module _ (c : Card) (left : Left c) (u : Tables) where
       → o ≡ u .control
       → Turns t u false turns
       → EventsMark (c .desk) turns due
-      → withEvents c g o due ≡ stored (record { tables = u; desk = marked t u (view c .desk) })
+      → withEvents c g o due ≡ stored (record { tables = u; desk = marked t u (view c .desk); round = view c .round })
   events-card roll sel made polls rows timers reg own turns due =
       next-card c left u roll made polls rows timers (selectable-form c left ∙ sym sel) reg own (events-desk c left u turns due)
 
@@ -129,7 +129,7 @@ module _ (c : Card) (left : Left c) (n p : ℕ) (on : Bool) (within : p < 20) (t
   others-are : (j : ℕ) → (j ≡ p → ⊥) → registeredSet next j ≡ registeredSet l j
   others-are j h = registered-kept l n (withEvent p on) here (λ x. refl) j (λ x. getD-set-other (x .events) p j on false h)
 
-  sets-are : set (c .registered) p (switchedSet was n on) ≡ table 20 (registeredSet next)
+  pub sets-are : set (c .registered) p (switchedSet was n on) ≡ table 20 (registeredSet next)
   sets-are =
       ap (λ (k : List ℕ). set k p (switchedSet was n on)) (registered-form c left)
       ∙ table-set 20 (registeredSet l) p (switchedSet was n on)
@@ -139,16 +139,16 @@ module _ (c : Card) (left : Left c) (n p : ℕ) (on : Bool) (within : p < 20) (t
       go j true e = sym own-is ∙ ap (registeredSet next) (sym (eqb-true j p e))
       go j false e = sym (others-are j (eqb-false j p e))
 
-  roll-same : rollOf next ≡ rollOf l
+  pub roll-same : rollOf next ≡ rollOf l
   roll-same = roll-kept l n (withEvent p on) here (λ x. refl)
 
-  made-same : madeTable next ≡ madeTable l
+  pub made-same : madeTable next ≡ madeTable l
   made-same = made-kept l n (withEvent p on) here (λ x. refl) (λ x. refl)
 
-  polls-same : pollTable next ≡ pollTable l
+  pub polls-same : pollTable next ≡ pollTable l
   polls-same = poll-kept l n (withEvent p on) here (λ x. refl) (λ x. refl)
 
-  selectable-same : selectableSet next ≡ selectableSet l
+  pub selectable-same : selectableSet next ≡ selectableSet l
   selectable-same = selectable-kept l n (withEvent p on) here (λ x. refl) (λ x. refl)
 
   sound-next : SoundTables (withApplets (view c .tables) next)
@@ -194,9 +194,9 @@ module _
     plain true = refl
     plain false = refl
 
-    still : deskAfter m (event call) ≡ m .desk
-    unfolding deskAfter
-    still = refl
+    still : Still m (event call)
+    unfolding deskAfter roundAfter
+    still = (refl, refl)
 
     -- the tables that an accepted call leaves
     registers : (b : Bool) → eventTables (m .tables) (turning n v b) ≡ register (m .tables) n (kindOf v) b
@@ -215,7 +215,7 @@ module _
 
     -- what the struct holds after the call, where the tables are u
     abbrev After : (set owner : ℕ) (due : Bool) → Tables → Type 0
-    After g o due u = withEvents c (set (c .registered) p g) o due ≡ stored (record { tables = u; desk = marked (m .tables) u (m .desk) })
+    After g o due u = withEvents c (set (c .registered) p g) o due ≡ stored (record { tables = u; desk = marked (m .tables) u (m .desk); round = m .round })
 
     module _
         {g o : ℕ} {turns due : Bool}

@@ -14,8 +14,9 @@ use Rattle.lists.specs.Tables.{table}
 use Rattle.sets.specs.Sets.{numbers, valued, setOf}
 use Rattle.rules.specs.declared.Answer.{Answer}
 use Rattle.rules.specs.declared.Roll.{Roll}
+use Rattle.rules.specs.declared.Round.{Round}
 use Rattle.rules.specs.declared.Rows.{Rows}
-use Rattle.rules.specs.Holds.{document, fresh, nothingDue}
+use Rattle.rules.specs.Holds.{document, fresh, nothingDue, noRound}
 use Rattle.rules.specs.Held.{storedRows, storedDesk, storedAnswer}
 use Rattle.rules.specs.Calls.{refusedWith}
 use Rattle.rules.specs.Refusals.{line, firstHolding}
@@ -23,6 +24,7 @@ use Rattle.rules.specs.Beside.{freshCard, freshBy}
 use Rattle.rules.specs.Runs.{cardAfter}
 use Rattle.refusals.proofs.Calls.{title-short}
 use Rattle.applets.specs.ByNumber.{rollOf, selectableSet, registeredSet, madeTable, pollTable}
+use Rattle.arrivals.specs.Rounds.{storedRound}
 use Rattle.card.specs.declared.Card.{Card}
 use Rattle.card.specs.declared.Reply.{Reply}
 use Rattle.card.specs.View.{stored, Left}
@@ -32,10 +34,11 @@ use Rattle.card.proofs.Replied.{card-is}
 module _ (title : List ℕ) where
   -- a card with no applet and no row, part by part
   pub fresh-is
-      : {a : Roll} {r : Rows} {t : List ℕ}
+      : {a : Roll} {r : Rows} {t : List ℕ} {q : Round}
       → a ≡ rollOf []
       → r ≡ storedRows []
       → t ≡ padded 20 0 title
+      → q ≡ storedRound noRound
       → _≡_ {A = Card}
       (record {
         roll = a;
@@ -47,10 +50,11 @@ module _ (title : List ℕ) where
         rows = r;
         bank = record { owner = replicate 8 0 };
         desk = record { due = nothingDue; session = false; outstanding = false; «title_len» = length title; title = t; profile = replicate 32 0 };
+        round = q;
       })
       (stored (fresh document title))
   unfolding selectableSet registeredSet madeTable pollTable setOf valued numbers table first storedDesk
-  fresh-is p q s = card-is (fresh document title) p refl refl refl refl refl q refl (rw s refl)
+  fresh-is p q s o = card-is (fresh document title) o p refl refl refl refl refl q refl (rw s refl)
 
   module _ {r n : ℕ} (e : r ≡ firstHolding (line 12 (20 <? length title) ∷ [])) (kept : n ≡ (if r == 0 then length title else 0)) where
     -- what is kept of the title: all, or nothing where it is refused

@@ -22,7 +22,7 @@ use Rattle.rules.specs.Calls.{Call, systemCommand, refusedWith, numbered}
 use Rattle.rules.specs.Commands.{shownMenu, shownEvents, menuOf, menuBytes, eventBytes, interval, intervalBytes, offBytes}
 use Rattle.rules.specs.Desk.{handedOut, withMarks, dueCommand, withHandedOut}
 use Rattle.rules.specs.Refusals.{refusal, line, lines, firstHolding}
-use Rattle.rules.specs.Step.{step, outcome, changed, tablesAfter, deskAfter, answer, written, lent}
+use Rattle.rules.specs.Step.{step, outcome, changed, tablesAfter, roundAfter, deskAfter, answer, written, lent}
 use Rattle.rules.proofs.DueMarks.{marked-same, first-due, first-handed}
 use Rattle.commands.specs.Fits.{Fits, shownOf}
 use Rattle.refusals.proofs.Calls.{hand-room}
@@ -163,7 +163,7 @@ module _ (c : Card) (left : Left c) where
             × (y ≡ outcome k m x .buffer)
 
         by-refusal : (k : ℕ) → r ≡ k → After k
-        unfolding outcome changed tablesAfter deskAfter answer written lent storedDesk
+        unfolding outcome changed tablesAfter deskAfter roundAfter answer written lent storedDesk
         by-refusal zero h =
             let is : f ≡ firstDue true (c .desk .due) = p ∙ ap (λ (k : ℕ). firstDue (k == 0) (c .desk .due)) h in
             let rest : g ≡ restDue (c .desk .due) (firstDue true (c .desk .due)) = q ∙ ap (restDue (c .desk .due)) is in

@@ -27,7 +27,7 @@ use Rattle.rules.specs.Applets.{hasNumber, nobody, present, applet, newcomer}
 use Rattle.rules.specs.Calls.{Call, admin, install, accepted, refusedWith}
 use Rattle.rules.specs.Desk.{marked}
 use Rattle.rules.specs.Refusals.{lines, refusal}
-use Rattle.rules.specs.Step.{step, tablesAfter, adminTables, deskAfter, answer}
+use Rattle.rules.specs.Step.{step, tablesAfter, adminTables, deskAfter, answer, roundAfter, adminRound}
 use Rattle.runs.specs.Sound.{SoundApplet, SoundTables}
 use Rattle.runs.proofs.Looked.{each-found, absent-nobody}
 use Rattle.runs.proofs.Filled.{Installs, installs}
@@ -45,7 +45,7 @@ use Rattle.card.proofs.Left.{left-sound, left-bounds}
 use Rattle.card.proofs.Marks.{quiet-desk}
 use Rattle.card.proofs.Turned.{install-quiet}
 use Rattle.card.proofs.Order.{count-is}
-use Rattle.card.proofs.Replied.{after-by, plain-reply, refused-stays, card-is, roll-form, selectable-form, registered-form, made-form, polls-form, control-form, rows-form, bank-form}
+use Rattle.card.proofs.Replied.{after-by, plain-reply, refused-stays, card-is, roll-form, selectable-form, registered-form, made-form, polls-form, control-form, rows-form, bank-form, round-form}
 
 module _ (c : Card) (left : Left c) (n : ℕ) (q : Request) where
   abbrev t : Tables
@@ -142,10 +142,10 @@ module _ (c : Card) (left : Left c) (n : ℕ) (q : Request) where
         → r ≡ rollWith (c .roll) n g
         → s ≡ switchedSet (c .selectable) n true
         → _≡_ {A = Card}
-        (record { roll = r; selectable = s; registered = c .registered; made = c .made; polls = c .polls; control = c .control; rows = c .rows; bank = c .bank; desk = c .desk })
-        (stored (record { tables = u; desk = marked t u (view c .desk) }))
+        (record { roll = r; selectable = s; registered = c .registered; made = c .made; polls = c .polls; control = c .control; rows = c .rows; bank = c .bank; desk = c .desk; round = c .round })
+        (stored (record { tables = u; desk = marked t u (view c .desk); round = view c .round }))
     joined e f h =
-        card-is (record { tables = u; desk = marked t u (view c .desk) })
+        card-is (record { tables = u; desk = marked t u (view c .desk); round = view c .round }) (round-form c left)
         (f ∙ ap (rollWith (c .roll) n) e ∙ roll-next) (h ∙ selectable-next)
         (registered-form c left ∙ sym registered-next) (made-form c left ∙ sym made-next) (polls-form c left ∙ sym polls-next)
         (unfold adminTables in control-form c left) (unfold adminTables in rows-form c left) (unfold adminTables in bank-form c left)
@@ -174,10 +174,10 @@ module _ (c : Card) (left : Left c) (n : ℕ) (q : Request) where
         → g ≡ grantOf x
         → w ≡ rollWith (c .roll) n g
         → s ≡ switchedSet (c .selectable) n true
-        → k ≡ record { roll = w; selectable = s; registered = c .registered; made = c .made; polls = c .polls; control = c .control; rows = c .rows; bank = c .bank; desk = c .desk }
+        → k ≡ record { roll = w; selectable = s; registered = c .registered; made = c .made; polls = c .polls; control = c .control; rows = c .rows; bank = c .bank; desk = c .desk; round = c .round }
         → Leaves k
-    unfolding tablesAfter deskAfter
-    with-newcomer h e f i is = is ∙ joined (accepts h) e f i ∙ ap stored (sym (after-by m call refusal-is refl (rw h refl)))
+    unfolding tablesAfter deskAfter roundAfter adminRound
+    with-newcomer h e f i is = is ∙ joined (accepts h) e f i ∙ ap stored (sym (after-by m call refusal-is (refl, refl) (rw h refl)))
 
     pub as-it-was : (r ≡ 0 → ⊥) → {k : Card} → k ≡ c → Leaves k
     as-it-was h is = is ∙ refused-stays c left call refusal-is h

@@ -21,8 +21,6 @@ pub mod Handed
 pub mod EntryRows
 pub mod NewEntry
 pub mod Installs
-pub mod Calling
-pub mod Settled
+pub mod Arrival
 pub mod Profile
-pub mod Envelope
-pub mod Status
+pub mod Turn

@@ -19,7 +19,7 @@ use Rattle.rules.specs.Applets.{hasNumber, present, applet}
 use Rattle.rules.specs.Calls.{AdminCall, Outcome, admin, lock, unlock, accepted, refusedWith}
 use Rattle.rules.specs.Desk.{menuChanges, eventsChange}
 use Rattle.rules.specs.Refusals.{lines, firstHolding, absent, adminLines, refusal}
-use Rattle.rules.specs.Step.{step, outcome, tablesAfter, adminTables, deskAfter, answer}
+use Rattle.rules.specs.Step.{step, outcome, tablesAfter, adminTables, deskAfter, answer, roundAfter, adminRound}
 use Rattle.runs.proofs.AlreadySo.{lock-a-locked-one, unlock-a-selectable-one}
 use Rattle.runs.proofs.Registered.{changed-sound, selectable-same}
 use Rattle.applets.specs.ByNumber.{at, selectableSet, registeredSet, pollTable}
@@ -34,7 +34,7 @@ use Rattle.card.specs.declared.Reply.{Reply}
 use Rattle.card.specs.View.{view, stored, Left}
 use Rattle.card.specs.Replies.{replied}
 use Rattle.card.proofs.Left.{left-form, left-sound, left-bounds}
-use Rattle.card.proofs.Replied.{tablesBy, after-by, plain-reply, next-card, registered-form, polls-form, control-form}
+use Rattle.card.proofs.Replied.{tablesBy, after-by, plain-reply, next-card, registered-form, polls-form, control-form, Still}
 use Rattle.card.proofs.Marks.{withDue, MenuMark, EventsMark, PollingMarks, all-desk}
 use Rattle.card.proofs.Polled.{marks-then}
 use Rattle.card.proofs.Present.{present-by, gone-by, selectable-has, selectable-there}
@@ -123,9 +123,13 @@ module _ (c : Card) (left : Left c) (n : ℕ) (on : Bool) {there : Bool} (found 
   tables-are true = refl
   tables-are false = refl
 
-  still : deskAfter m (admin (locking on n)) ≡ m .desk
-  unfolding deskAfter
-  still = refl
+  still : Still m (admin (locking on n))
+  unfolding deskAfter roundAfter
+  still = (refl, go on)
+    where
+      go : (b : Bool) → adminRound (m .round) (locking b n) ≡ m .round
+      go true = unfold adminRound in refl
+      go false = unfold adminRound in refl
 
   plain : answer m (admin (locking on n)) ≡ accepted
   unfolding answer
@@ -144,7 +148,7 @@ module _ (c : Card) (left : Left c) (n : ℕ) (on : Bool) {there : Bool} (found 
       → p ≡ pollingAfter (c .desk .session) (c .desk .due .interval) (c .desk .due .off) (intervalOf (c .polls) (c .selectable)) (intervalOf (c .polls) (switchedSet (c .selectable) n on))
       → MenuMark (c .desk) menu x
       → EventsMark (c .desk) events y
-      → k ≡ record { roll = c .roll; selectable = s; registered = c .registered; made = c .made; polls = c .polls; control = c .control; rows = c .rows; bank = c .bank; desk = withDue (c .desk) x y (p .interval) (p .off) }
+      → k ≡ record { roll = c .roll; selectable = s; registered = c .registered; made = c .made; polls = c .polls; control = c .control; rows = c .rows; bank = c .bank; desk = withDue (c .desk) x y (p .interval) (p .off); round = c .round }
       → a ≡ storedAnswer (refusedWith r)
       → Says k a
   unfolding tablesAfter present

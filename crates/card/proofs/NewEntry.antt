@@ -19,7 +19,7 @@ use Rattle.rules.specs.Applets.{nobody, present, applet, entries}
 use Rattle.rules.specs.Rows.{noPair, nextPair, nextIdentifier, withEntry}
 use Rattle.rules.specs.Calls.{entry, newEntry, refusedWith, numbered}
 use Rattle.rules.specs.Refusals.{line, firstHolding, refusal}
-use Rattle.rules.specs.Step.{step, outcome, tablesAfter, deskAfter, entryTables, answer, entryAnswer}
+use Rattle.rules.specs.Step.{step, outcome, tablesAfter, deskAfter, entryTables, answer, entryAnswer, roundAfter}
 use Rattle.runs.specs.Sound.{SoundTables}
 use Rattle.runs.proofs.Looked.{has-its-number, sound-applet}
 use Rattle.runs.proofs.Filled.{NewEntry, new-entry}
@@ -122,7 +122,7 @@ module _ (c : Card) (left : Left c) (n : ℕ) (help : Bool) (text : List ℕ) {t
           → s ≡ withEntries c more (e .rows) y
           → i ≡ e .identifier
           → _≡_ {A = Reply} (record { card = s; answer = a }) (replied (step (view c) (entry (newEntry n help text))))
-      unfolding tablesAfter entryTables deskAfter view present applet
+      unfolding tablesAfter entryTables deskAfter roundAfter view present applet
       new-accepted {p} {e = e} says pp ee mm tu y is ii =
           let here = news .here in
           let pair : p ≡ nextPair x = pp ∙ ap₂ (λ (h : Grant) (m : ℕ). getD (h .pairs) m noPair) grant-of made-of ∙ pair-next x (news .more) in
@@ -141,5 +141,5 @@ module _ (c : Card) (left : Left c) (n : ℕ) (help : Bool) (text : List ℕ) {t
           (ap (λ (h : Added). h .rows) both)
           (subst (λ (b : Bool). Turns t u b false) (sym (tu ∙ selectable-there c left n here)) (new-entry-turns-menu t (sound .numbers-apart) n here help text))
           y
-          ∙ ap stored (sym (after-by (view c) (entry (newEntry n help text)) is-new refl (ap (tablesBy (view c) (entry (newEntry n help text))) z))))
+          ∙ ap stored (sym (after-by (view c) (entry (newEntry n help text)) is-new (refl, refl) (ap (tablesBy (view c) (entry (newEntry n help text))) z))))
           (gives-number (λ h. ii ∙ ap (λ (h : Added). h .identifier) both) says)

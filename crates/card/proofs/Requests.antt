@@ -15,7 +15,7 @@ use Rattle.rules.specs.Applets.{hasNumber, present, longestPoll, badDuration, s
 use Rattle.rules.specs.Calls.{Call, event, requestPoll, accepted, refusedWith}
 use Rattle.rules.specs.Desk.{marked}
 use Rattle.rules.specs.Refusals.{line, lines, firstHolding, eventLines, refusal}
-use Rattle.rules.specs.Step.{step, tablesAfter, eventTables, deskAfter, answer, eventAnswer}
+use Rattle.rules.specs.Step.{step, tablesAfter, eventTables, deskAfter, answer, eventAnswer, roundAfter}
 use Rattle.runs.proofs.Accepted as runs
 use Rattle.runs.proofs.Filled.{is-here}
 use Rattle.runs.proofs.Registered.{changed-sound, poll-same, seconds-few}
@@ -31,7 +31,7 @@ use Rattle.card.specs.declared.Reply.{Reply}
 use Rattle.card.specs.View.{view, stored, Left}
 use Rattle.card.specs.Replies.{replied}
 use Rattle.card.proofs.Left.{left-sound, left-bounds}
-use Rattle.card.proofs.Replied.{tablesBy, after-by, plain-reply, refused-stays, card-is, roll-form, selectable-form, registered-form, made-form, polls-form, control-form, rows-form, bank-form}
+use Rattle.card.proofs.Replied.{tablesBy, after-by, plain-reply, refused-stays, card-is, roll-form, selectable-form, registered-form, made-form, polls-form, control-form, rows-form, bank-form, round-form}
 use Rattle.card.proofs.Marks.{withPollingDue, polling-desk}
 use Rattle.card.proofs.Polled.{marks-then}
 use Rattle.card.proofs.Present.{gone-by}
@@ -39,7 +39,7 @@ use Rattle.card.proofs.Present.{gone-by}
 -- the card with other requests, and these marks of polling
 abbrev pub withRequests : Card → (polls : List ℕ) → Polling → Card
 withRequests c polls p =
-    record { roll = c .roll; selectable = c .selectable; registered = c .registered; made = c .made; polls = polls; control = c .control; rows = c .rows; bank = c .bank; desk = withPollingDue (c .desk) p }
+    record { roll = c .roll; selectable = c .selectable; registered = c .registered; made = c .made; polls = polls; control = c .control; rows = c .rows; bank = c .bank; desk = withPollingDue (c .desk) p; round = c .round }
 
 module _ (c : Card) (left : Left c) (n : ℕ) (d : ℤ) {there : Bool} (found : there ≡ has? (c .roll .present) n)
     {r : ℕ} (refused : r ≡ firstHolding (line 2 (not there) ∷ line 20 (badDuration d) ∷ []))
@@ -89,10 +89,10 @@ module _ (c : Card) (left : Left c) (n : ℕ) (d : ℤ) {there : Bool} (found : 
           : {next : List ℕ} {p : Polling}
           → next ≡ tableWith (c .polls) n s
           → p ≡ pollingAfter (c .desk .session) (c .desk .due .interval) (c .desk .due .off) (intervalOf (c .polls) (c .selectable)) (intervalOf next (c .selectable))
-          → withRequests c next p ≡ stored (record { tables = u; desk = marked t u (m .desk) })
+          → withRequests c next p ≡ stored (record { tables = u; desk = marked t u (m .desk); round = m .round })
       unfolding present
       requested-card e f =
-          card-is (record { tables = u; desk = marked t u (m .desk) })
+          card-is (record { tables = u; desk = marked t u (m .desk); round = m .round }) (round-form c left)
           (roll-form c left ∙ sym (roll-kept l n (withPoll s) here (λ x. refl)))
           sets
           (registered-form c left ∙ table-alike 20 _ _ (λ i h. sym (registered-kept l n (withPoll s) here (λ x. refl) i (λ x. refl))))
@@ -113,12 +113,12 @@ module _ (c : Card) (left : Left c) (n : ℕ) (d : ℤ) {there : Bool} (found : 
           → k ≡ withRequests c next p
           → a ≡ storedAnswer (refusedWith r)
           → Says k a
-      unfolding tablesAfter eventTables deskAfter
+      unfolding tablesAfter eventTables deskAfter roundAfter
       takes so e p is says =
           plain-reply m call refusal-is plain
           (is
           ∙ requested-card (e ∙ ap (tableWith (c .polls) n) so) (p ∙ rw e refl)
-          ∙ ap stored (sym (after-by m call refusal-is refl (ap (tablesBy m call) z))))
+          ∙ ap stored (sym (after-by m call refusal-is (refl, refl) (ap (tablesBy m call) z))))
           says
 
     -- one that is refused

@@ -17,7 +17,7 @@ use Rattle.rules.specs.Envelopes.{commandOf}
 use Rattle.rules.specs.Calls.{ProactiveCall, proactive, send, response, accepted, refusedWith}
 use Rattle.rules.specs.Desk.{withOutstanding}
 use Rattle.rules.specs.Refusals.{refusal, line, lines, firstHolding, proactiveLines}
-use Rattle.rules.specs.Step.{step, outcome, changed, tablesAfter, deskAfter, proactiveDesk, answer}
+use Rattle.rules.specs.Step.{step, outcome, changed, tablesAfter, roundAfter, deskAfter, proactiveDesk, answer}
 use Rattle.rules.proofs.DueMarks.{marked-same}
 use Rattle.refusals.specs.Lines.{sendRefusal}
 use Rattle.refusals.proofs.Calls.{send-is}
@@ -26,17 +26,17 @@ use Rattle.card.specs.declared.Reply.{Reply}
 use Rattle.card.specs.View.{view, stored, Left}
 use Rattle.card.specs.Replies.{replied}
 use Rattle.card.proofs.Left.{left-form}
-use Rattle.card.proofs.Replied.{plain-reply, card-is, roll-form, selectable-form, registered-form, made-form, polls-form, control-form, rows-form, bank-form, desk-form}
+use Rattle.card.proofs.Replied.{plain-reply, card-is, roll-form, selectable-form, registered-form, made-form, polls-form, control-form, rows-form, bank-form, desk-form, round-form}
 use Rattle.card.proofs.Present.{found-by}
 
 -- the card with another desk
 abbrev pub withDesk : Card → held.Desk → Card
 withDesk c d =
-    record { roll = c .roll; selectable = c .selectable; registered = c .registered; made = c .made; polls = c .polls; control = c .control; rows = c .rows; bank = c .bank; desk = d }
+    record { roll = c .roll; selectable = c .selectable; registered = c .registered; made = c .made; polls = c .polls; control = c .control; rows = c .rows; bank = c .bank; desk = d; round = c .round }
 
-pub desk-card : (c : Card) → Left c → (e : Desk) {d : held.Desk} → d ≡ storedDesk e → withDesk c d ≡ stored (record { tables = view c .tables; desk = e })
+pub desk-card : (c : Card) → Left c → (e : Desk) {d : held.Desk} → d ≡ storedDesk e → withDesk c d ≡ stored (record { tables = view c .tables; desk = e; round = view c .round })
 desk-card c l e p =
-    card-is (record { tables = view c .tables; desk = e })
+    card-is (record { tables = view c .tables; desk = e; round = view c .round }) (round-form c l)
     (roll-form c l) (selectable-form c l) (registered-form c l) (made-form c l) (polls-form c l) (control-form c l) (rows-form c l) (bank-form c l) p
 
 -- the desk as it is held, with a command outstanding, or with none
@@ -54,7 +54,7 @@ module _ (c : Card) (l : Left c) where
   -- a call that makes it so, or not so, where it is accepted
   module _ (p : ProactiveCall) (is : Bool) (desk-is : proactiveDesk (m .desk) p ≡ withOutstanding is (m .desk)) {r : ℕ} (e : r ≡ refusal m (proactive p)) where
     by-refusal : (k : ℕ) → withDesk c (waiting (c .desk) (if k == 0 then is else c .desk .outstanding)) ≡ stored (outcome k m (proactive p) .after)
-    unfolding outcome changed tablesAfter deskAfter
+    unfolding outcome changed tablesAfter deskAfter roundAfter
     by-refusal zero = rw (desk-is, marked-same (m .tables) (withOutstanding is (m .desk))) (desk-card c l (withOutstanding is (m .desk)) (waiting-form is))
     by-refusal (suc k) = rw (ne-eqb (suc k) 0 (λ z. omega arith)) (left-form c l)
 

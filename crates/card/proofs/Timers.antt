@@ -17,7 +17,7 @@ use Rattle.rules.specs.Calls.{timer, allocate, release}
 use Rattle.rules.specs.Beside.{BankOutcome, bankAllocate, allocateBy, bankRelease, releaseBy}
 use Rattle.rules.specs.Desk.{marked}
 use Rattle.rules.specs.Refusals.{refusal, lines, firstHolding, timerLines, absent}
-use Rattle.rules.specs.Step.{step, outcome, changed, tablesAfter, deskAfter, timerTables, answer, timerAnswer}
+use Rattle.rules.specs.Step.{step, outcome, changed, tablesAfter, roundAfter, deskAfter, timerTables, answer, timerAnswer}
 use Rattle.timers.specs.Promises.{Allocates, Releases}
 use Rattle.applets.specs.ByNumber.{byNumber, grantOf}
 use Rattle.card.specs.declared.Card.{Card}
@@ -27,14 +27,14 @@ use Rattle.card.specs.Replies.{replied}
 use Rattle.rules.specs.Held.{storedAnswer}
 use Rattle.card.proofs.Left.{left-form}
 use Rattle.card.proofs.Marks.{quiet-desk}
-use Rattle.card.proofs.Replied.{replies, card-is, roll-form, selectable-form, registered-form, made-form, polls-form, control-form, rows-form}
+use Rattle.card.proofs.Replied.{replies, card-is, roll-form, selectable-form, registered-form, made-form, polls-form, control-form, rows-form, round-form}
 use Rattle.card.proofs.Turned.{timers-quiet}
 use Rattle.card.proofs.Present.{gone-by, grant-is, low-is, high-is}
 
 -- the card with another bank
 abbrev withBank : Card → Bank → Card
 withBank c b =
-    record { roll = c .roll; selectable = c .selectable; registered = c .registered; made = c .made; polls = c .polls; control = c .control; rows = c .rows; bank = b; desk = c .desk }
+    record { roll = c .roll; selectable = c .selectable; registered = c .registered; made = c .made; polls = c .polls; control = c .control; rows = c .rows; bank = b; desk = c .desk; round = c .round }
 
 module _ (c : Card) (l : Left c) where
   abbrev m : Model
@@ -44,10 +44,10 @@ module _ (c : Card) (l : Left c) where
   os = c .bank .owner
 
   -- timers change nothing that is shown
-  with-timers : (k : List ℕ) → withBank c (record { owner = k }) ≡ stored (record { tables = withTimers (m .tables) k; desk = marked (m .tables) (withTimers (m .tables) k) (m .desk) })
+  with-timers : (k : List ℕ) → withBank c (record { owner = k }) ≡ stored (record { tables = withTimers (m .tables) k; desk = marked (m .tables) (withTimers (m .tables) k) (m .desk); round = m .round })
   with-timers k =
       let u = withTimers (m .tables) k in
-      card-is (record { tables = u; desk = marked (m .tables) u (m .desk) })
+      card-is (record { tables = u; desk = marked (m .tables) u (m .desk); round = m .round }) (round-form c l)
       (roll-form c l) (selectable-form c l) (registered-form c l) (made-form c l) (polls-form c l) (control-form c l) (rows-form c l) refl
       (quiet-desk c l u (timers-quiet (m .tables) k))
 
@@ -74,7 +74,7 @@ module _ (c : Card) (l : Left c) where
       by-bank false h = unfold isOwner allocateBy in rw (gone, h) refl
 
       by-refusal : (k : ℕ) → withBank c (record { owner = allocateBy k os n .owners }) ≡ stored (outcome k m (timer (allocate n)) .after)
-      unfolding allocateBy outcome changed tablesAfter deskAfter timerTables view
+      unfolding allocateBy outcome changed tablesAfter deskAfter roundAfter timerTables view
       by-refusal zero = with-timers (withAllocated os n)
       by-refusal (suc k) = left-form c l
 
@@ -101,7 +101,7 @@ module _ (c : Card) (l : Left c) where
       freed-by-bank false h = unfold isOwner releaseBy in rw (gone, h) refl
 
       freed-by-refusal : (k : ℕ) → withBank c (record { owner = releaseBy k os i .owners }) ≡ stored (outcome k m (timer (release n i)) .after)
-      unfolding releaseBy outcome changed tablesAfter deskAfter timerTables view
+      unfolding releaseBy outcome changed tablesAfter deskAfter roundAfter timerTables view
       freed-by-refusal zero = with-timers (withReleased os i)
       freed-by-refusal (suc k) = left-form c l
 

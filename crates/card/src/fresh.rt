@@ -49,6 +49,7 @@ fn made(title: &[u8]) -> Card
         title: held,
         profile: [0; Desk::PROFILE],
     };
+    let round = arrivals::no_round();
     Card {
         roll,
         selectable: 0,
@@ -59,6 +60,7 @@ fn made(title: &[u8]) -> Card
         rows,
         bank,
         desk,
+        round,
     }
 }
 

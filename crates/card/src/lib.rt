@@ -19,6 +19,7 @@ use rules::Bank;
 use rules::Desk;
 use rules::Kind;
 use rules::Roll;
+use rules::Round;
 use rules::Rows;
 
 #[repr(C)]
@@ -32,6 +33,7 @@ pub struct Card {
     pub roll: Roll,
     pub rows: Rows,
     pub desk: Desk,
+    pub round: Round,
 }
 
 // The card after a call, with the answer.

@@ -10,7 +10,7 @@ ghost use Rattle.card.specs.View.{Left};
 ghost use Rattle.card.specs.Replies.{Replies};
 
 impl Card {
-    // Deletes an applet, with its rows, its timers, its registrations and its request for polling.
+    // Deletes an applet, with its rows, its timers, its registrations and its request for polling; its number leaves the round.
     pub fn delete(self, applet: u8) -> Reply
         requires { ⌜ Left self ⌝ }
         ensures { λ r. ⌜ Replies self (admin (delete applet)) r ⌝ }
@@ -46,6 +46,7 @@ impl Card {
             let next_bank = timers::freed(bank, applet);
             let control = applets::owner_without(left.control, applet);
             let next_rows = menu::without(rows, applet);
+            let waiting = sets::switched(left.round.waiting, applet, false);
             left.roll = next_roll;
             left.selectable = is;
             left.registered = next_registered;
@@ -58,6 +59,7 @@ impl Card {
             left.desk.due.interval = polling.interval;
             left.desk.due.off = polling.off;
             left.rows = next_rows;
+            left.round.waiting = waiting;
         }
         let refusal = absent_refusal(there);
         let answer = answers::of_refusal(refusal);

@@ -1,10 +1,10 @@
--- Calls that leave the shown events: an install, a new entry, a request for polling, a settled moment, call control, rows and timers.
+-- Calls that leave the shown events: an install, a new entry, a request for polling, a one-shot used up, call control, rows and timers.
 -- Assumes nothing.
 use Prim.Native.Nat.{ℕ, zero, suc}
 use native.Mathlib.Omega.{arith}
 use mathlib.Core.Path.{_≡_, refl, sym, ap, _∙_}
 use mathlib.Core.Bool.{Bool, true, false, _||_}
-use mathlib.Core.List.{List, [], _∷_, _++_, map}
+use mathlib.Core.List.{List, [], _∷_, _++_}
 use lib.ListN.{getD, replicate}
 use lib.Seq.{getD-set-other}
 use Rattle.lists.specs.Tests.{if_then_else_}
@@ -13,7 +13,7 @@ use Rattle.lists.proofs.Changes.{some-change}
 use Rattle.rules.specs.declared.Request.{Request}
 use Rattle.rules.specs.Holds.{Applet, Row, Tables, withApplets, withRows, withControl, withTimers, withEvent, withOneMore, withPoll}
 use Rattle.rules.specs.Events.{handlerAvailable}
-use Rattle.rules.specs.Applets.{hasNumber, newcomer, registered, calledWhenSettled, usedUp}
+use Rattle.rules.specs.Applets.{hasNumber, newcomer, registered, withRegistration}
 use Rattle.rules.specs.Commands.{listened}
 use Rattle.rules.specs.Desk.{eventsChange}
 use Rattle.events_shown.specs.Turns.{listens}
@@ -41,28 +41,18 @@ module _ (t : Tables) (n : ℕ) (r : Request) where
   pub install-events : eventsChange t grown ≡ false
   install-events = events-same t grown (λ e h k. listened-is grown e h ∙ some-snoc _ (t .applets) (newcomer n r) (deaf e) ∙ sym (listened-is t e h))
 
--- SETTLED
-some-map : {A : Type 0} (p : A → Bool) (f : A → A) (l : List A) → ((x : A) → p (f x) ≡ p x) → some? p (map f l) ≡ some? p l
-unfolding some?
-some-map p f [] h = refl
-some-map p f (x ∷ l) h = rw (h x, some-map p f l h) refl
+-- A ONE-SHOT USED UP: its event is no download
+pub one-shot-events : (t : Tables) (n : ℕ) → eventsChange t (withRegistration t n handlerAvailable false) ≡ false
+unfolding withRegistration
+one-shot-events t n =
+    events-same t spent
+    (λ e h k. listened-is spent e h ∙ some-change _ (hasNumber n) (withEvent handlerAvailable false) (λ x. hears e x (λ z. absurd (omega arith))) (t .applets) ∙ sym (listened-is t e h))
+  where
+    spent : Tables
+    spent = withApplets t (change (hasNumber n) (withEvent handlerAvailable false) (t .applets))
 
-module _ (t : Tables) where
-  abbrev spent : Tables
-  spent = withApplets t (map usedUp (t .applets))
-
-  used-hears : (e : ℕ) (x : Applet) → (e ≡ handlerAvailable → ⊥) → listens e (usedUp x) ≡ listens e x
-  unfolding usedUp
-  used-hears e x h = go (calledWhenSettled x)
-    where
-      go : (b : Bool) → listens e (if b then withEvent handlerAvailable false x else x) ≡ listens e x
-      go true = rw (getD-set-other (x .events) handlerAvailable e false false h) refl
-      go false = refl
-
-  pub settled-events : eventsChange t spent ≡ false
-  settled-events =
-      events-same t spent
-      (λ e h k. listened-is spent e h ∙ some-map _ usedUp (t .applets) (λ x. used-hears e x (λ z. absurd (omega arith))) ∙ sym (listened-is t e h))
+    hears : (e : ℕ) (x : Applet) → (e ≡ handlerAvailable → ⊥) → listens e (withEvent handlerAvailable false x) ≡ listens e x
+    hears e x h = rw (getD-set-other (x .events) handlerAvailable e false false h) refl
 
 -- CALL CONTROL, ROWS AND TIMERS are no matter of the shown events
 pub control-events : (t : Tables) (o : ℕ) → eventsChange t (withControl t o) ≡ false

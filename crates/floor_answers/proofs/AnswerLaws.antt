@@ -1,12 +1,14 @@
 -- The line of an answer that is accepted, and of one that is refused.
 -- Assumes nothing.
-use Prim.Native.Nat.{ℕ, _≤_, _<_}
+use Prim.Native.Nat.{ℕ, zero, suc, _≤_, _<_}
 use Prim.Native.Char.{code}
 use native.Mathlib.Omega.{arith}
 use mathlib.Core.Path.{_≡_, refl, sym, ap}
-use mathlib.Core.List.{List, []}
+use mathlib.Core.List.{List, [], _∷_}
 use lib.ListN.{length, take, length-take}
+use lib.Seq.{take-nil}
 use borrow.Author.Tests.{eq-eqb, ne-eqb}
+use Rattle.lists.specs.Tests.{if_then_else_, _==_}
 use Rattle.lists.specs.Lists.{some?, in?}
 use Rattle.lists.specs.Text.{ascii}
 use Rattle.lists.specs.Wrote.{Wrote}
@@ -34,11 +36,15 @@ module _ (call : ℕ) (a : Answer) (out : List ℕ) where
   shown-at x e h = rw e h
 
   pub shown-none
-      : (call ≡ code "M" → ⊥) → (call ≡ code "T" → ⊥) → (call ≡ code "P" → ⊥) → (call ≡ code "S" → ⊥) → (call ≡ code "O" → ⊥) → (call ≡ code "W" → ⊥)
-      → [] ≡ shownBy call a out
+      : (call ≡ code "M" → ⊥) → (call ≡ code "T" → ⊥) → (call ≡ code "N" → ⊥) → (call ≡ code "W" → ⊥) → [] ≡ shownBy call a out
   unfolding shownBy in? some? ascii
-  shown-none m t p s o w =
-      rw (ne-eqb (code "M") call (λ e. m (sym e)), ne-eqb (code "T") call (λ e. t (sym e)), ne-eqb (code "P") call (λ e. p (sym e)), ne-eqb (code "S") call (λ e. s (sym e)), ne-eqb (code "O") call (λ e. o (sym e)), ne-eqb call (code "W") w) refl
+  shown-none m t n w =
+      rw (ne-eqb (code "M") call (λ e. m (sym e)), ne-eqb (code "T") call (λ e. t (sym e)), ne-eqb call (code "N") n, ne-eqb call (code "W") w) refl
+
+-- the one called, and none of it where it is 0
+pub one-called : (n : ℕ) → take n (n ∷ []) ≡ (if n == 0 then [] else n ∷ [])
+one-called zero = refl
+one-called (suc n) = rw (ne-eqb (suc n) 0 (λ e. omega arith)) (ap (λ l. suc n ∷ l) (take-nil n))
 
 -- as many bytes as a byte counts are not too many for a line
 pub first-few : (n : ℕ) (l : List ℕ) {r : List ℕ} → r ≡ take n l → n < 256 → length r ≤ 256

@@ -9,11 +9,11 @@ use Rattle.lists.specs.Text.{ascii}
 use Rattle.rules.specs.Floor.{decimal, dash, lineOf}
 use Rattle.rules.specs.declared.Answer.{Answer}
 
--- the identifier or the timer; those called; the command, so many bytes at the front of out; of any other call nothing
+-- the identifier or the timer; the one called, if any; the command, so many bytes at the front of out; of any other call nothing
 unfoldable pub shownBy : (call : ℕ) → Answer → (out : List ℕ) → List ℕ
 shownBy x a out =
     if in? x (ascii "MT") then a .number ∷ [] else
-    if in? x (ascii "PSO") then take (a .count) (a .called) else
+    if x == code "N" then (if a .called == 0 then [] else a .called ∷ []) else
     if x == code "W" then take (a .number) out else []
 
 -- a refusal shows nothing; where there was no call, 0, there is a dash for it

@@ -32,12 +32,17 @@ pub fn write_answer(
         return write_line(buf, number, letter, Refusal::Number(refusal), &one[..0]);
     }
     let accepted = Refusal::Number(0);
-    let called = answer.called;
-    let named = first(&called, answer.count as usize);
+    // 0 is nobody, of which first takes nothing
+    let called = [answer.called];
     match call {
         b'M' | b'T' => write_line(buf, number, letter, accepted, &one),
-        b'P' | b'S' => write_line(buf, number, letter, accepted, named),
-        b'O' => write_line(buf, number, letter, accepted, named),
+        b'N' => write_line(
+            buf,
+            number,
+            letter,
+            accepted,
+            first(&called, answer.called as usize),
+        ),
         b'W' => write_line(
             buf,
             number,

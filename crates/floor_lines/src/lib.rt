@@ -85,7 +85,7 @@ fn is_in(s: &[u8], b: u8) -> bool
 fn shown_letter(letter: u8) -> u8
     ensures { λ r. ⌜ r ≡ (if in? letter letters then letter else 63) ⌝ }
 {
-    let known = *b"IMECPSOWRTDLU";
+    let known = *b"IMECPSONWRTDLU";
     if is_in(&known, letter) { letter } else { b'?' }
 }
 

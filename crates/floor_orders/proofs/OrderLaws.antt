@@ -39,17 +39,17 @@ then-none n a e = rw (eq-eqb n 0 e) refl
 pub else-some : (n a : ℕ) → (n ≡ 0 → ⊥) → (n == 0) ≡ (n == 0 && a == 0)
 else-some n a h = rw (ne-eqb n 0 h) refl
 
--- none of the thirteen letters
+-- none of the fourteen letters
 abbrev pub NoLetter : ℕ → Type 0
 NoLetter x =
-    ((((((((((((Unit {0} × (x ≡ code "I" → ⊥)) × (x ≡ code "M" → ⊥)) × (x ≡ code "E" → ⊥)) × (x ≡ code "C" → ⊥)) × (x ≡ code "P" → ⊥)) × (x ≡ code "S" → ⊥))
-    × (x ≡ code "O" → ⊥)) × (x ≡ code "W" → ⊥)) × (x ≡ code "R" → ⊥)) × (x ≡ code "T" → ⊥)) × (x ≡ code "D" → ⊥)) × (x ≡ code "L" → ⊥)) × (x ≡ code "U" → ⊥)
+    (((((((((((((Unit {0} × (x ≡ code "I" → ⊥)) × (x ≡ code "M" → ⊥)) × (x ≡ code "E" → ⊥)) × (x ≡ code "C" → ⊥)) × (x ≡ code "P" → ⊥)) × (x ≡ code "S" → ⊥)) × (x ≡ code "O" → ⊥))
+    × (x ≡ code "N" → ⊥)) × (x ≡ code "W" → ⊥)) × (x ≡ code "R" → ⊥)) × (x ≡ code "T" → ⊥)) × (x ≡ code "D" → ⊥)) × (x ≡ code "L" → ⊥)) × (x ≡ code "U" → ⊥)
 
 -- such a letter makes no call
 pub unknown : (x a n : ℕ) (l : List ℕ) → NoLetter x → orderBy x a n l ≡ noCall
 unfolding orderBy
 unknown x a n l h =
-    rw (ne-eqb x (code "I") (h .0 .0 .0 .0 .0 .0 .0 .0 .0 .0 .0 .0 .1), ne-eqb x (code "M") (h .0 .0 .0 .0 .0 .0 .0 .0 .0 .0 .0 .1), ne-eqb x (code "E") (h .0 .0 .0 .0 .0 .0 .0 .0 .0 .0 .1), ne-eqb x (code "C") (h .0 .0 .0 .0 .0 .0 .0 .0 .0 .1), ne-eqb x (code "P") (h .0 .0 .0 .0 .0 .0 .0 .0 .1), ne-eqb x (code "S") (h .0 .0 .0 .0 .0 .0 .0 .1), ne-eqb x (code "O") (h .0 .0 .0 .0 .0 .0 .1), ne-eqb x (code "W") (h .0 .0 .0 .0 .0 .1), ne-eqb x (code "R") (h .0 .0 .0 .0 .1), ne-eqb x (code "T") (h .0 .0 .0 .1), ne-eqb x (code "D") (h .0 .0 .1), ne-eqb x (code "L") (h .0 .1), ne-eqb x (code "U") (h .1)) refl
+    rw (ne-eqb x (code "I") (h .0 .0 .0 .0 .0 .0 .0 .0 .0 .0 .0 .0 .0 .1), ne-eqb x (code "M") (h .0 .0 .0 .0 .0 .0 .0 .0 .0 .0 .0 .0 .1), ne-eqb x (code "E") (h .0 .0 .0 .0 .0 .0 .0 .0 .0 .0 .0 .1), ne-eqb x (code "C") (h .0 .0 .0 .0 .0 .0 .0 .0 .0 .0 .1), ne-eqb x (code "P") (h .0 .0 .0 .0 .0 .0 .0 .0 .0 .1), ne-eqb x (code "S") (h .0 .0 .0 .0 .0 .0 .0 .0 .1), ne-eqb x (code "O") (h .0 .0 .0 .0 .0 .0 .0 .1), ne-eqb x (code "N") (h .0 .0 .0 .0 .0 .0 .1), ne-eqb x (code "W") (h .0 .0 .0 .0 .0 .1), ne-eqb x (code "R") (h .0 .0 .0 .0 .1), ne-eqb x (code "T") (h .0 .0 .0 .1), ne-eqb x (code "D") (h .0 .0 .1), ne-eqb x (code "L") (h .0 .1), ne-eqb x (code "U") (h .1)) refl
 
 pub help-first : (l : List ℕ) → marksHelp l ≡ (1 ≤? length l && byte l 0 ≤? 1)
 unfolding marksHelp

@@ -54,6 +54,7 @@ fn is_call(letter: u8, applet: u8, arguments: &[u8]) -> bool
         b'E' | b'C' => n == 2,
         b'P' | b'S' => applet == 0,
         b'O' | b'W' | b'R' => n == 0 && applet == 0,
+        b'N' => n == 0 && applet == 0,
         b'T' => n == 0,
         b'D' | b'L' | b'U' => n == 0,
         _ => false,

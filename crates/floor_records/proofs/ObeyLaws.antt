@@ -21,7 +21,7 @@ use Rattle.rules.specs.Calls.{Answer as Answered}
 use Rattle.rules.specs.Desk.{dueCommand}
 use Rattle.rules.specs.Refusals.{line, lines, firstHolding, refusal}
 use Rattle.rules.specs.Step as Step
-use Rattle.rules.specs.Step.{step, outcome, changed, tablesAfter, deskAfter, written, front}
+use Rattle.rules.specs.Step.{step, outcome, changed, tablesAfter, roundAfter, deskAfter, written, front}
 use Rattle.rules.specs.Floor as floor
 use Rattle.rules.specs.Floor.{only-if, orderBy, orderOf, decimal, lineOf, shownAnswer, obeyed, stepLine}
 use Rattle.card.specs.declared.Card.{Card}
@@ -45,7 +45,7 @@ module _ (m : Model) (b c : List ℕ) where
     shown : take (o .answer .number) (o .buffer) ≡ take (p .answer .number) (p .buffer)
 
   outcome-same : (r : ℕ) → Same (outcome r m (systemCommand b)) (outcome r m (systemCommand c))
-  unfolding outcome changed tablesAfter deskAfter Step.answer written front
+  unfolding outcome changed tablesAfter deskAfter roundAfter Step.answer written front
   outcome-same zero =
       let d = dueCommand (m .tables) (m .desk) in
       record { after = refl; answer = refl; shown = take-append-seam d (drop (length d) b) ∙ sym (take-append-seam d (drop (length d) c)) }
@@ -79,7 +79,7 @@ module _ {c : Card} {s : List ℕ} {x a : ℕ} {l buffer : List ℕ} (heard : He
 module _ {c : Card} {s : List ℕ} {x a : ℕ} {l buffer : List ℕ} (heard : Heard c s x a l buffer) {end : List ℕ} {p r : Reply} where
   -- the call q that the letter y stands for, and what is shown of its answer
   pub made-call
-      : (y : ℕ) (b : Bool) (q : Call) → x ≡ y → (y == 0) ≡ false → orderBy y a (byte s 2) l ≡ only-if b q → ((o : Outcome) → shownBy y (storedAnswer (o .answer)) end ≡ shownAnswer q o)
+      : (y : ℕ) (b : Bool) (q : Call) → x ≡ y → (y == 0) ≡ false → orderBy y a (byte s 2) l ≡ only-if b q → shownBy y (storedAnswer (step (view c) q .answer)) end ≡ shownAnswer q (step (view c) q)
       → p ≡ replied (step (view c) q) → end ≡ buffer → r ≡ p → Made (view c) s x end r
   unfolding floor.obey obeyed replied storedAnswer lineBy
   made-call y b q e some is shown g k same =
@@ -87,7 +87,7 @@ module _ {c : Card} {s : List ℕ} {x a : ℕ} {l buffer : List ℕ} (heard : He
       let order = makes heard y b q e some is in
       record {
         card = λ i j. rw (order, same, g) refl;
-        line = λ i j. rw (order, same, g, e, some) (ap (λ (t : List ℕ). lineOf i j (decimal (o .answer .refusal)) (if o .answer .refusal == 0 then t else [])) (shown o));
+        line = λ i j. rw (order, same, g, e, some) (ap (λ (t : List ℕ). lineOf i j (decimal (o .answer .refusal)) (if o .answer .refusal == 0 then t else [])) shown);
         long = ap length k ∙ heard .wide;
       }
 

@@ -57,6 +57,7 @@ pub fn obey_all(mut card: Card, mut number: u64, input: &[u8], out: &mut [u8]) -
             b'P' => card.profile(rest),
             b'S' => card.envelope(rest),
             b'O' => card.settled(),
+            b'N' => card.next(),
             b'W' => card.system_command(&mut command),
             b'R' => card.response(),
             b'T' => card.allocate(applet),

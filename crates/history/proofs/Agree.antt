@@ -6,8 +6,8 @@ use mathlib.Core.Bool.{Bool, true, false}
 use mathlib.Core.List.{_∷_, map}
 use lib.ListN.{getD}
 use Rattle.lists.specs.Tests.{_==_}
-use Rattle.lists.specs.Lists.{Every, Ordered, count}
-use Rattle.rules.specs.Holds.{Applet, Row, Tables, Desk, Model, document}
+use Rattle.lists.specs.Lists.{Every, Ordered, count, in?}
+use Rattle.rules.specs.Holds.{Applet, Row, Tables, Desk, Round, Model, document}
 use Rattle.rules.specs.Events.{callControl}
 use Rattle.rules.specs.Applets.{present, applet}
 use Rattle.rules.specs.Timers.{ownerOf}
@@ -17,6 +17,7 @@ use Rattle.rules.specs.Step.{tablesAfter, answer}
 use Rattle.runs.specs.Sound.{Sound}
 use Rattle.history.specs.Histories.{did, History}
 use Rattle.history.specs.Named.{isPresent, isSelectable, priorityOf, isLater, isRegistered, pollOf, ownsTimer, rowsNamed, inSession, isOutstanding}
+use Rattle.history.specs.Called.{arrived, isOpen, waits}
 
 -- the number of an applet
 abbrev pub numberOf : Applet → ℕ
@@ -41,9 +42,16 @@ pub record AgreeDesk (d : Desk) (h : History) : Type 0 where
   pub session : d .session ≡ inSession h
   pub outstanding : d .outstanding ≡ isOutstanding h
 
+-- The round, while one is open.
+pub record AgreeRound (r : Round) (h : History) : Type 0 where
+  pub openness : r .isOpen ≡ isOpen h
+  pub arrival : r .isOpen ≡ true → r .arrived ≡ arrived h
+  pub waiting : r .isOpen ≡ true → (n : ℕ) → 1 ≤ n → in? n (r .waiting) ≡ waits n h
+
 pub record Agree (m : Model) (h : History) : Type 0 where
   pub tables : AgreeTables (m .tables) h
   pub desk : AgreeDesk (m .desk) h
+  pub round : AgreeRound (m .round) h
 
 -- what is known of every card that calls have left
 pub record Ground (m : Model) : Type 0 where
@@ -52,4 +60,4 @@ pub record Ground (m : Model) : Type 0 where
 
 -- P holds of the tables after an accepted call
 abbrev pub Kept : (Tables → History → Type 0) → Type 0
-Kept P = (m : Model) (h : History) (c : Call) → refusal m c ≡ 0 → Ground m → AgreeTables (m .tables) h → P (tablesAfter (m .tables) c) (did c (answer m c) ∷ h)
+Kept P = (m : Model) (h : History) (c : Call) → refusal m c ≡ 0 → Ground m → AgreeTables (m .tables) h → P (tablesAfter m c) (did c (answer m c) ∷ h)

@@ -9,13 +9,14 @@ use lib.ListN.{replicate}
 use lib.Dec.{eqb·suc-zero}
 use borrow.Author.Tests.{ne-eqb}
 use Rattle.lists.specs.Tests.{if_then_else_, _==_}
-use Rattle.lists.specs.Lists.{Every, Ordered, some?, first, count, keep}
+use Rattle.lists.specs.Lists.{Every, Ordered, some?, first, keep}
+use Rattle.lists.proofs.Decided.{clashing}
 use Rattle.lists.proofs.Places.{getD-blank}
 use Rattle.lists.proofs.Times.{if-same}
 use Rattle.rules.specs.Holds.{Model, document, fresh}
 use Rattle.rules.specs.Applets.{present, applet}
 use Rattle.rules.specs.Timers.{ownerOf}
-use Rattle.rules.specs.Calls.{Call, Answer, refusedWith, admin, event, entry, timer, arrival, settled, proactive, systemCommand, setEvent, clearEvent, askEvent, requestPoll, newEntry, changeEntry, enableEntry, disableEntry, allocate, release, envelope, profile, status}
+use Rattle.rules.specs.Calls.{Call, Answer, refusedWith, admin, event, entry, timer, arrival, next, proactive, systemCommand, setEvent, clearEvent, askEvent, requestPoll, newEntry, changeEntry, enableEntry, disableEntry, allocate, release, envelope, profile, status, settled}
 use Rattle.rules.specs.Refusals.{refusal}
 use Rattle.rules.specs.Step.{eventAnswer, entryAnswer, timerAnswer, arrivalAnswer, answer, changed, outcome, step}
 use Rattle.rules.specs.Beside.{freshBy, freshCard}
@@ -24,6 +25,7 @@ use Rattle.rules.proofs.Bounds.{after-keeps}
 use Rattle.runs.proofs.Run.{run-sound}
 use Rattle.history.specs.Histories.{did, History, accepted, stands}
 use Rattle.history.specs.Named.{isPresent, isSelectable, isRegistered, pollOf, ownsTimer, rowsNamed, rowsSince, inSession, isOutstanding}
+use Rattle.history.specs.Called.{isOpen}
 use Rattle.history.specs.Runs.{historyOf}
 use Rattle.history.proofs.Agree.{Agree, Ground}
 use Rattle.history.proofs.Present.{presence-kept, selectability-kept, priorities-kept, order-kept}
@@ -31,6 +33,7 @@ use Rattle.history.proofs.Registered.{events-kept, control-kept, poll-k
 use Rattle.history.proofs.Owners.{timers-kept}
 use Rattle.history.proofs.RowsNamed.{rows-kept}
 use Rattle.history.proofs.DeskKept.{desk-kept}
+use Rattle.history.proofs.RoundNamed.{round-kept}
 
 -- A fresh card, and no call.
 free : (k : ℕ) → ownerOf (replicate 8 0) k ≡ 0
@@ -38,7 +41,7 @@ unfolding ownerOf
 free k = ap (λ (o : ℕ). if k == 0 then 0 else o) (getD-blank 0 8 (k - 1)) ∙ if-same (k == 0) 0
 
 agree-fresh : (title : List ℕ) → Agree (fresh document title) []
-unfolding present applet isPresent isSelectable isRegistered pollOf ownsTimer rowsNamed rowsSince inSession isOutstanding stands Every Ordered some? first count
+unfolding present applet isOpen isPresent isSelectable isRegistered pollOf ownsTimer rowsNamed rowsSince inSession isOutstanding stands Every Ordered some? first
 agree-fresh title =
     record {
       tables =
@@ -54,6 +57,7 @@ agree-fresh title =
             rows = λ p. refl;
           };
       desk = record { session = refl; outstanding = refl };
+      round = record { openness = refl; arrival = λ o. clashing o refl; waiting = λ o. clashing o refl };
     }
 
 agree-start : (n : ℕ) (title : List ℕ) → Agree (freshBy n document title .card) []
@@ -73,13 +77,14 @@ agree-kept m h c ok s g =
             selectability = selectability-kept m h c ok s (g .tables);
             priorities = priorities-kept m h c ok s (g .tables);
             order = order-kept m h c ok s (g .tables);
-            events = events-kept m h c ok s (g .tables);
+            events = events-kept m h (g .round) c ok s (g .tables);
             control = control-kept m h c ok s (g .tables);
             poll = poll-kept m h c ok s (g .tables);
             timers = timers-kept m h c ok s (g .tables);
             rows = rows-kept m h c ok s (g .tables);
           };
       desk = desk-kept m h c (g .desk);
+      round = round-kept m h c ok s (g .tables) (g .round);
     }
 
 -- its answer has no refusal
@@ -99,7 +104,8 @@ plain m (timer (release n k)) = refl
 plain m (arrival (envelope bytes)) = refl
 plain m (arrival (profile bytes)) = refl
 plain m (arrival status) = refl
-plain m settled = refl
+plain m (arrival settled) = refl
+plain m next = refl
 plain m (proactive c) = refl
 plain m (systemCommand buffer) = refl
 

@@ -1,20 +1,16 @@
--- What an accepted call answers: the list of those whom what arrives with it calls.
+-- What an accepted call answers: only next calls anybody.
 -- Assumes nothing.
 use Prim.Native.Nat.{ℕ, zero, suc}
 use native.Mathlib.Omega.{arith}
-use mathlib.Core.Path.{_≡_, refl, sym, ap, _∙_}
-use mathlib.Core.Bool.{Bool, true, false, _&&_}
-use mathlib.Core.List.{List, [], _∷_, map}
-use Rattle.lists.specs.Tests.{if_then_else_}
-use Rattle.lists.specs.Lists.{keep}
-use Rattle.rules.specs.Holds.{Applet, Tables, Model}
-use Rattle.rules.specs.Envelopes.{envelopeOf, badEnvelope}
-use Rattle.rules.specs.Applets.{inOrder}
-use Rattle.rules.specs.Arrivals.{nothing, wants, called}
-use Rattle.rules.specs.Calls.{Call, admin, event, entry, timer, arrival, settled, proactive, systemCommand, setEvent, clearEvent, askEvent, requestPoll, newEntry, changeEntry, enableEntry, disableEntry, allocate, release, envelope, profile, status}
+use mathlib.Core.Path.{_≡_, refl, ap}
+use mathlib.Core.Bool.{false}
+use mathlib.Core.List.{[]}
+use Rattle.lists.proofs.Decided.{clashing}
+use Rattle.rules.specs.Holds.{Model}
+use Rattle.rules.specs.Calls.{Call, admin, event, entry, timer, arrival, next, proactive, systemCommand, setEvent, clearEvent, askEvent, requestPoll, newEntry, changeEntry, enableEntry, disableEntry, allocate, release, envelope, profile, status, settled}
 use Rattle.rules.specs.Refusals.{firstHolding, arrivalLines, lines, refusal}
 use Rattle.rules.specs.Step.{eventAnswer, entryAnswer, timerAnswer, arrivalAnswer, answer, outcome, step}
-use Rattle.history.specs.Called.{arrivalIn}
+use Rattle.history.specs.Rounds.{isNext}
 use Rattle.history.proofs.Agrees.{plain}
 
 -- a call is accepted if its answer has no refusal, and then its answer is the rules'
@@ -48,49 +44,27 @@ gives m c = go (refusal m c)
     go zero = plain m c
     go (suc k) = refl
 
--- nothing that arrives calls nobody
-kept-none : (l : List Applet) → keep (λ (x : Applet). x .selectable && false) l ≡ []
-unfolding keep
-kept-none [] = refl
-kept-none (x ∷ l) = go (x .selectable) (kept-none l)
-  where
-    go : (b : Bool) → keep (λ (x : Applet). x .selectable && false) l ≡ []
-        → (if b && false then x ∷ keep (λ (x : Applet). x .selectable && false) l else keep (λ (x : Applet). x .selectable && false) l) ≡ []
-    go true e = e
-    go false e = e
-
-nobody-called : (t : Tables) → [] ≡ called t nothing
-unfolding called wants inOrder
-nobody-called t = sym (ap (λ (l : List Applet). map (λ (x : Applet). x .number) (inOrder l)) (kept-none (t .applets)))
-
--- what an accepted call calls
-pub calls-those : (m : Model) (c : Call) → answer m c .called ≡ called (m .tables) (arrivalIn c)
-unfolding answer eventAnswer entryAnswer timerAnswer arrivalAnswer arrivalIn
-calls-those m (admin c) = nobody-called (m .tables)
-calls-those m (event (setEvent n v)) = nobody-called (m .tables)
-calls-those m (event (clearEvent n v)) = nobody-called (m .tables)
-calls-those m (event (askEvent n v)) = nobody-called (m .tables)
-calls-those m (event (requestPoll n d)) = nobody-called (m .tables)
-calls-those m (entry (newEntry n help text)) = nobody-called (m .tables)
-calls-those m (entry (changeEntry n i help text)) = nobody-called (m .tables)
-calls-those m (entry (enableEntry n i)) = nobody-called (m .tables)
-calls-those m (entry (disableEntry n i)) = nobody-called (m .tables)
-calls-those m (timer (allocate n)) = nobody-called (m .tables)
-calls-those m (timer (release n k)) = nobody-called (m .tables)
-calls-those m (arrival (envelope bytes)) = refl
-calls-those m (arrival (profile bytes)) = refl
-calls-those m (arrival status) = refl
-calls-those m settled = refl
-calls-those m (proactive c) = nobody-called (m .tables)
-calls-those m (systemCommand buffer) = nobody-called (m .tables)
-
--- an envelope that can be read is accepted
-pub reads : (m : Model) (bytes : List ℕ) → badEnvelope (envelopeOf bytes) ≡ false
-    → step m (arrival (envelope bytes)) .answer .refusal ≡ 0
-unfolding refusal lines arrivalLines firstHolding
-reads m bytes e =
-    let ok : refusal m (arrival (envelope bytes)) ≡ 0 = rw e refl in
-    ap (λ a. a .refusal) (answers m (arrival (envelope bytes)) ok) ∙ plain m (arrival (envelope bytes))
+-- only next calls anybody
+pub calls-nobody : (m : Model) (c : Call) → isNext c ≡ false → answer m c .called ≡ []
+unfolding answer eventAnswer entryAnswer timerAnswer arrivalAnswer isNext
+calls-nobody m (admin c) e = refl
+calls-nobody m (event (setEvent n v)) e = refl
+calls-nobody m (event (clearEvent n v)) e = refl
+calls-nobody m (event (askEvent n v)) e = refl
+calls-nobody m (event (requestPoll n d)) e = refl
+calls-nobody m (entry (newEntry n help text)) e = refl
+calls-nobody m (entry (changeEntry n i help text)) e = refl
+calls-nobody m (entry (enableEntry n i)) e = refl
+calls-nobody m (entry (disableEntry n i)) e = refl
+calls-nobody m (timer (allocate n)) e = refl
+calls-nobody m (timer (release n k)) e = refl
+calls-nobody m (arrival (envelope bytes)) e = refl
+calls-nobody m (arrival (profile bytes)) e = refl
+calls-nobody m (arrival status) e = refl
+calls-nobody m (arrival settled) e = refl
+calls-nobody m next e = clashing refl e
+calls-nobody m (proactive c) e = refl
+calls-nobody m (systemCommand buffer) e = refl
 
 -- a STATUS is always accepted
 pub status-is-taken : (m : Model) → step m (arrival status) .answer .refusal ≡ 0

@@ -4,20 +4,23 @@ use Prim.Native.Nat.{ℕ}
 use mathlib.Core.Path.{_≡_, refl, ap, _∙_}
 use mathlib.Core.Bool.{Bool, true, false}
 use mathlib.Core.List.{List, [], _∷_, _++_, map}
+use lib.ListN.{take}
 use Rattle.lists.specs.Tests.{if_then_else_, _==_}
 use Rattle.lists.specs.Lists.{Every, some?, first, change}
-use Rattle.lists.proofs.Every.{every-so, every-map}
-use Rattle.lists.proofs.Order.{every-changes}
+use Rattle.lists.proofs.Every.{every-so, every-keep, every-map}
+use Rattle.lists.proofs.Order.{every-changes, every-insert}
 use Rattle.lists.proofs.Ifs.{if-holds}
+use Rattle.lists.proofs.Owned.{every-there}
 use Rattle.lists.proofs.Times.{if-same, if-map}
-use Rattle.lists.proofs.Keyed.{first-more, first-map, first-change, keys-map, keys-change}
+use Rattle.lists.proofs.Keyed.{first-more, first-change, keys-change}
 use Rattle.rules.specs.declared.Kind.{Kind}
 use Rattle.rules.specs.declared.Kind.the-variants.{Event, Issuer, Reserved, Unsupported}
 use Rattle.rules.specs.declared.Request.{Request}
-use Rattle.rules.specs.Holds.{Applet, Tables, Model, withApplets, withControl, withEvent, withOneMore, withPoll}
+use Rattle.rules.specs.Holds.{Applet, Tables, Round, Model, withApplets, withControl, withEvent, withOneMore, withPoll}
 use Rattle.rules.specs.Events.{callControl, handlerAvailable, kindOf}
-use Rattle.rules.specs.Applets.{hasNumber, nobody, present, applet, newcomer, forget, register, withRegistration, secondsOf, calledWhenSettled, usedUp}
+use Rattle.rules.specs.Applets.{hasNumber, nobody, present, applet, newcomer, forget, register, withRegistration, secondsOf, inOrder}
 use Rattle.rules.specs.Calls.{event, entry, EventCall, setEvent, clearEvent, askEvent, requestPoll, EntryCall, newEntry, changeEntry, enableEntry, disableEntry}
+use Rattle.rules.specs.Rounds.{turns, named, bySettled, usedUp}
 use Rattle.rules.specs.Step.{eventTables, entryTables}
 use Rattle.rules.specs.Refusals.{eventLines, lines, refusal}
 use Rattle.runs.proofs.Accepted.{accepted as none-holds}
@@ -43,16 +46,6 @@ module _ (l : List Applet) (f : Applet → Applet) (same : (x : Applet) → f x 
       ∙ if-map g (m == n) (f (first (hasNumber n) nobody l)) (first (hasNumber n) nobody l)
       ∙ ap (λ x. if m == n then x else g (first (hasNumber n) nobody l)) (k (first (hasNumber n) nobody l))
       ∙ if-same (m == n) (g (first (hasNumber n) nobody l))
-
--- a settled moment leaves what the registration of the one-shot leaves
-pub used-kept : {B : Type 0} (g : Applet → B) → ((b : Bool) (x : Applet) → g (withEvent handlerAvailable b x) ≡ g x) → (x : Applet)
-    → g (usedUp x) ≡ g x
-unfolding usedUp
-used-kept g k x = if-holds (λ y. g y ≡ g x) (calledWhenSettled x) (λ h. search k) (λ h. search k)
-
-pub with-used : (l : List Applet) (n : ℕ) → first (hasNumber n) nobody (map usedUp l) ≡ usedUp (first (hasNumber n) nobody l)
-unfolding usedUp
-with-used l n = first-map numberOf nobody usedUp (used-kept numberOf (λ b x. refl)) refl n l
 
 -- The calls on registrations, and on requests for polling.
 pub registered-kept : {B : Type 0} (g : Applet → B) → ((e : ℕ) (b : Bool) (x : Applet) → g (withEvent e b x) ≡ g x)
@@ -86,9 +79,9 @@ entry-kept g w m n (changeEntry b i help text) ok = refl
 entry-kept g w m n (enableEntry b i) ok = refl
 entry-kept g w m n (disableEntry b i) ok = refl
 
--- What holds of each applet, and that a registration, a request, an entry or a settled moment leaves, still does.
+-- What holds of each applet, and that a registration, a request or an entry leaves, still does.
 module _ (P : Applet → Type 0) where
-  registered-each : ((e : ℕ) (b : Bool) (x : Applet) → P x → P (withEvent e b x)) → (t : Tables) (m : ℕ) (k : Kind) (b : Bool)
+  pub registered-each : ((e : ℕ) (b : Bool) (x : Applet) → P x → P (withEvent e b x)) → (t : Tables) (m : ℕ) (k : Kind) (b : Bool)
       → Every P (t .applets) → Every P (register t m k b .applets)
   unfolding register withRegistration
   registered-each w t m (Event e) b i = go (e == callControl)
@@ -117,14 +110,8 @@ module _ (P : Applet → Type 0) where
   entry-each w t (enableEntry m j) i = i
   entry-each w t (disableEntry m j) i = i
 
-  pub used-each : ((b : Bool) (x : Applet) → P x → P (withEvent handlerAvailable b x)) → (l : List Applet) → Every P l
-      → Every P (map usedUp l)
-  unfolding usedUp
-  used-each w l i =
-      every-map P usedUp l (every-so P _ (λ x p. if-holds P (calledWhenSettled x) (λ h. search (w, p)) (λ h. search (w, p))) l i)
-
 -- The numbers, where none is installed or deleted.
-registered-numbers : (t : Tables) (m : ℕ) (k : Kind) (b : Bool)
+pub registered-numbers : (t : Tables) (m : ℕ) (k : Kind) (b : Bool)
     → map numberOf (register t m k b .applets) ≡ map numberOf (t .applets)
 unfolding register withRegistration
 registered-numbers t m (Event e) b = go (e == callControl)
@@ -151,10 +138,30 @@ entry-numbers t (changeEntry m i help text) = refl
 entry-numbers t (enableEntry m i) = refl
 entry-numbers t (disableEntry m i) = refl
 
-pub used-numbers : (l : List Applet) → map numberOf (map usedUp l) ≡ map numberOf l
-used-numbers l = keys-map numberOf nobody usedUp (used-kept numberOf (λ b x. refl)) l
+-- what holds of each holds of each in order
+pub every-inOrder : (P : Applet → Type 0) (l : List Applet) → Every P l → Every P (inOrder l)
+unfolding inOrder Every
+every-inOrder P [] e = tt
+every-inOrder P (x ∷ l) e = every-insert P _ x (inOrder l) (e .0) (every-inOrder P l (e .1))
 
--- The rows and the timers, where applets only register and request.
+-- Those whose turn is to come are there.
+pub turns-there : (t : Tables) (r : Round) → Every (λ n. present t n ≡ true) (turns t r)
+unfolding turns present
+turns-there t r =
+    every-map (λ n. some? (hasNumber n) (t .applets) ≡ true) numberOf _
+    (every-inOrder _ _ (every-so _ _ (λ x q. q .0) _ (every-keep _ _ (t .applets) (every-there numberOf (t .applets)))))
+
+-- A turn leaves the tables as they are, or clears the one-shot of one that is there.
+pub at-turn : (P : Tables → Type 0) (t : Tables) (r : Round) → P t → ((n : ℕ) → present t n ≡ true → P (register t n (Event handlerAvailable) false))
+    → P (usedUp (r .arrived) (named t r) t)
+unfolding named usedUp register
+at-turn P t r stays cleared = go (turns t r) (turns-there t r)
+  where
+    go : (l : List ℕ) → Every (λ n. present t n ≡ true) l → P (usedUp (r .arrived) (take 1 l) t)
+    go [] e = stays
+    go (n ∷ l) e = unfold Every in if-holds P (bySettled (r .arrived)) (λ h. cleared n (e .0)) (λ h. stays)
+
+-- The rows and the timers, where applets only register and request, or get a turn.
 module _ {B : Type 0} (g : Tables → B) (a : (t : Tables) (l : List Applet) → g (withApplets t l) ≡ g t) (c : (t : Tables) (o : ℕ) → g (withControl t o) ≡ g t) where
   registered-same : (t : Tables) (m : ℕ) (k : Kind) (b : Bool) → g (register t m k b) ≡ g t
   unfolding register withRegistration
@@ -175,8 +182,17 @@ module _ {B : Type 0} (g : Tables → B) (a : (t : Tables) (l : List Applet) →
   event-same t (askEvent m v) = refl
   event-same t (requestPoll m d) = a t _
 
+  turn-same : (t : Tables) (r : Round) → g (usedUp (r .arrived) (named t r) t) ≡ g t
+  turn-same t r = at-turn (λ u. g u ≡ g t) t r refl (λ n there. registered-same t n (Event handlerAvailable) false)
+
 pub event-timers : (t : Tables) (c : EventCall) → eventTables t c .timers ≡ t .timers
 event-timers t c = event-same (λ t. t .timers) (λ t l. refl) (λ t o. refl) t c
 
 pub event-rows : (t : Tables) (c : EventCall) → eventTables t c .rows ≡ t .rows
 event-rows t c = event-same (λ t. t .rows) (λ t l. refl) (λ t o. refl) t c
+
+pub turn-timers : (t : Tables) (r : Round) → usedUp (r .arrived) (named t r) t .timers ≡ t .timers
+turn-timers t r = turn-same (λ t. t .timers) (λ t l. refl) (λ t o. refl) t r
+
+pub turn-rows : (t : Tables) (r : Round) → usedUp (r .arrived) (named t r) t .rows ≡ t .rows
+turn-rows t r = turn-same (λ t. t .rows) (λ t l. refl) (λ t o. refl) t r

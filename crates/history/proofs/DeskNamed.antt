@@ -11,7 +11,7 @@ use Rattle.lists.specs.Tests.{_<?_}
 use Rattle.lists.specs.Lists.{keep}
 use Rattle.rules.specs.Holds.{Bounds, Model, document, fresh}
 use Rattle.rules.specs.Desk.{Matter, withProfile, dueMatters, withFirst, withHandedOut}
-use Rattle.rules.specs.Calls.{Call, admin, event, entry, timer, arrival, settled, proactive, systemCommand, envelope, profile, status, send, response}
+use Rattle.rules.specs.Calls.{Call, admin, event, entry, timer, arrival, next, proactive, systemCommand, envelope, profile, status, settled, send, response}
 use Rattle.rules.specs.Refusals.{firstHolding, refusal}
 use Rattle.rules.specs.Step.{arrivalDesk, proactiveDesk, deskAfter, tablesAfter, changed, answer, outcome, step}
 use Rattle.rules.specs.Beside.{freshBy, freshCard}
@@ -45,7 +45,7 @@ unfolding step outcome changed
 title-kept x c = go (refusal x c)
   where
     go : (k : ℕ) → outcome k x c .after .desk .title ≡ x .desk .title
-    go zero = marked-lasts (x .tables) (tablesAfter (x .tables) c) (deskAfter x c) .title ∙ desk-lasts x c .title
+    go zero = marked-lasts (x .tables) (tablesAfter x c) (deskAfter x c) .title ∙ desk-lasts x c .title
     go (suc k) = refl
 
 -- THE TITLE is the one that the card was made with, after any calls.
@@ -63,7 +63,8 @@ profile-after x h (timer c) e = e
 profile-after x h (arrival (envelope bytes)) e = e
 profile-after x h (arrival (profile bytes)) e = refl
 profile-after x h (arrival status) e = e
-profile-after x h settled e = e
+profile-after x h (arrival settled) e = e
+profile-after x h next e = e
 profile-after x h (proactive (send n bytes)) e = e
 profile-after x h (proactive response) e = e
 profile-after x h (systemCommand buffer) e = go (dueMatters (x .desk .due)) ∙ e
@@ -76,7 +77,7 @@ profile-call : (x : Model) (h : History) (c : Call) (k : ℕ) → x .desk .profi
     → outcome k x c .after .desk .profile ≡ profileNamed (accepted (did c (outcome k x c .answer) ∷ h))
 unfolding outcome changed
 profile-call x h c zero e =
-    marks-leave (λ d. d .profile) (λ d y. refl) (x .tables) (tablesAfter (x .tables) c) (deskAfter x c)
+    marks-leave (λ d. d .profile) (λ d y. refl) (x .tables) (tablesAfter x c) (deskAfter x c)
     ∙ profile-after x (accepted h) c e
     ∙ sym (ap profileNamed (accepted-more c (answer x c) h (plain x c)))
 profile-call x h c (suc k) e = e ∙ sym (ap profileNamed (accepted-same c k h))

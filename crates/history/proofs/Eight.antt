@@ -57,6 +57,11 @@ pub counted-by-place : (p : ℕ → Bool) (l : List ℕ) → length l ≡ 8 → 
 unfolding ownerOf oneToEight count
 counted-by-place p l h = ap (count p) (spelled l h)
 
+-- each of them is there once
+pub each-once : (n : ℕ) → 1 ≤ n → n ≤ 8 → count (λ k. n == k) oneToEight ≡ 1
+unfolding count oneToEight
+each-once = from-1-to-8 (λ x. count (λ k. x == k) oneToEight ≡ 1) (refl, refl, refl, refl, refl, refl, refl, refl)
+
 -- A list in which no number from 1 to 8 is twice, nor any other once: its length is how many of them are there.
 pub length-due : (l : List ℕ) (p : ℕ → Bool) → ((n : ℕ) → times n l ≡ (if p n then 1 else 0))
     → ((n : ℕ) → p n ≡ true → (1 ≤ n) × (n ≤ 8)) → length l ≡ count p oneToEight
@@ -71,5 +76,5 @@ length-due l p e within =
     once n h = go (p n) refl (e n)
       where
         go : (b : Bool) → p n ≡ b → times n l ≡ (if b then 1 else 0) → count (λ k. n == k) oneToEight ≡ 1
-        go true q r = from-1-to-8 (λ x. count (λ k. x == k) oneToEight ≡ 1) (refl, refl, refl, refl, refl, refl, refl, refl) n (within n q .0) (within n q .1)
+        go true q r = each-once n (within n q .0) (within n q .1)
         go false q r = absurd (omega arith)

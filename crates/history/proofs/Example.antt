@@ -1,4 +1,4 @@
--- The look-backs on examples, by computation: an order form with equal titles, a release, a delete, a locked one-shot, a screen, polling.
+-- The look-backs on examples, by computation: an order form with equal titles, a release, a delete, rounds with one-shots, a screen, polling.
 -- Assumes nothing.
 use Prim.Native.Nat.{ℕ}
 use mathlib.Core.Path.{_≡_, refl, ap}
@@ -12,12 +12,13 @@ use Rattle.rules.specs.Holds.{Row, document}
 use Rattle.rules.specs.Commands.{Item}
 use Rattle.rules.specs.Runs.{cardAfter}
 use Rattle.rules.specs.Desk.{menu, eventList, pollInterval, pollingOff, dueMatters}
-use Rattle.rules.specs.Calls.{Call, AdminCall, admin, event, entry, timer, arrival, settled, proactive, systemCommand, lock, unlock, delete, setEvent, requestPoll, newEntry, changeEntry, disableEntry, allocate, release, profile, response}
+use Rattle.rules.specs.Calls.{Call, admin, event, entry, timer, arrival, next, proactive, systemCommand, lock, unlock, delete, setEvent, requestPoll, newEntry, changeEntry, disableEntry, allocate, release, profile, settled, response}
 use Rattle.rules.proofs.Compute.{compute}
 use Rattle.rules.specs.Cases.{plain}
 use Rattle.history.specs.Histories.{accepted}
-use Rattle.history.specs.Deeds.{isSettled}
+use Rattle.history.specs.Rounds.{isNext}
 use Rattle.history.specs.Named.{hasOneShot, timerOwner, rowsNamed}
+use Rattle.history.specs.Called.{isOpen, getsTurn}
 use Rattle.history.specs.Named as named′
 use Rattle.history.specs.Called as called′
 use Rattle.history.specs.Runs.{historyOf}
@@ -46,6 +47,14 @@ orderForm =
 
 abbrev identifiers : List Call → List ℕ
 identifiers calls = map (λ (r : Row). r .identifier) (rowsNamed (past [] calls))
+
+-- a round that settled opened, for the one-shots of 1 and 2: of equal priority, so that the later installed comes first
+abbrev opened : List Call
+opened = arrival settled ∷ event (setEvent 2 (pos 123)) ∷ event (setEvent 1 (pos 123)) ∷ orderForm
+
+-- 1 is deleted, installed and registered again while it waits
+abbrev replaced : List Call
+replaced = event (setEvent 1 (pos 123)) ∷ plain 1 0 0 ∷ admin (delete 1) ∷ next ∷ opened
 
 -- a session on that order form: the menu is handed out; applet 1, which is registered for MT call, is locked; then the menu is handed
 -- out again, and the event list
@@ -89,9 +98,21 @@ pub record Examples : Type 0 where
   pub given : timerOwner 1 (past [] (timer (allocate 1) ∷ orderForm)) ≡ 1
   pub released : timerOwner 1 (past [] (timer (release 1 1) ∷ timer (allocate 1) ∷ orderForm)) ≡ 0
   pub not-released : timerOwner 1 (past [] (timer (release 2 1) ∷ timer (allocate 1) ∷ orderForm)) ≡ 1
-  -- a one-shot that a settled moment finds locked stays; one that it finds selectable is used up
-  pub stays : hasOneShot 1 (past [] (settled ∷ admin (lock 1) ∷ event (setEvent 1 (pos 123)) ∷ orderForm)) ≡ true
-  pub used-up : hasOneShot 1 (past [] (settled ∷ event (setEvent 1 (pos 123)) ∷ orderForm)) ≡ false
+  -- the first turn is of 2, the second of 1; it is of nobody if 1 is locked, and of 1 if it is unlocked in time; one unlocked late follows
+  -- a later one; one that was deleted has left the round
+  pub first-of-2 : getsTurn 2 (past [] opened) ≡ true
+  pub not-of-1 : getsTurn 1 (past [] opened) ≡ false
+  pub then-of-1 : getsTurn 1 (past [] (next ∷ opened)) ≡ true
+  pub not-while-locked : getsTurn 1 (past [] (admin (lock 1) ∷ next ∷ opened)) ≡ false
+  pub unlocked-in-time : getsTurn 1 (past [] (admin (unlock 1) ∷ admin (lock 1) ∷ next ∷ opened)) ≡ true
+  pub after-a-later-one : getsTurn 2 (past [] (admin (unlock 2) ∷ next ∷ admin (lock 2) ∷ opened)) ≡ true
+  pub not-after-delete : getsTurn 1 (past [] replaced) ≡ false
+  -- the round is open until next finds nobody
+  pub still-open : isOpen (past [] (next ∷ next ∷ opened)) ≡ true
+  pub closed : isOpen (past [] (next ∷ next ∷ next ∷ opened)) ≡ false
+  -- a one-shot stays as settled opens the round, and while others get their turns; at its own it is used up
+  pub stays : hasOneShot 1 (past [] (next ∷ opened)) ≡ true
+  pub used-up : hasOneShot 1 (past [] (next ∷ next ∷ opened)) ≡ false
   -- six items are handed out, and one code; the lock makes both due and leaves the screen; two hand-outs mend it
   pub six-shown : onScreen first ≡ 128 ∷ 129 ∷ 130 ∷ 131 ∷ 132 ∷ 133 ∷ []
   pub six-left : onScreen locked ≡ 128 ∷ 129 ∷ 130 ∷ 131 ∷ 132 ∷ 133 ∷ []
@@ -110,7 +131,7 @@ pub record Examples : Type 0 where
   pub interval-due : dueMatters (cardAfter document [] (admin (unlock 1) ∷ unpolled) .desk .due) ≡ pollInterval ∷ []
 
 pub examples : Examples
-unfolding compute accepted historyOf reading named′.isSelectable named′.isRegistered named′.usesUp named′.hasOneShot named′.ownsTimer named′.oneToEight named′.theOne named′.timerOwner named′.rowMade named′.rowsSince named′.rowsNamed handed′.seenOf handed′.handed handed′.begins handed′.handedSince handed′.lastMenu handed′.screen handed′.codesIn handed′.isEventList handed′.lastList handed′.codesHanded named′.pollOf called′.isNamed called′.isDue handed′.isPolling handed′.lastPolling handed′.intervalNamed
+unfolding compute accepted historyOf reading named′.isSelectable named′.isRegistered named′.usesUp named′.hasOneShot named′.ownsTimer named′.oneToEight named′.theOne named′.timerOwner named′.rowMade named′.rowsSince named′.rowsNamed handed′.seenOf handed′.handed handed′.begins handed′.handedSince handed′.lastMenu handed′.screen handed′.codesIn handed′.isEventList handed′.lastList handed′.codesHanded named′.pollOf called′.isNamed called′.isCallable called′.arrived called′.since called′.onArrival called′.isOpen called′.waits called′.isDue called′.isBefore called′.getsTurn named′.settledOpened named′.priorityOf named′.isLater handed′.isPolling handed′.lastPolling handed′.intervalNamed
 examples =
     record {
       six-rows = refl;
@@ -119,6 +140,15 @@ examples =
       given = refl;
       released = refl;
       not-released = refl;
+      first-of-2 = refl;
+      not-of-1 = refl;
+      then-of-1 = refl;
+      not-while-locked = refl;
+      unlocked-in-time = refl;
+      after-a-later-one = refl;
+      not-after-delete = refl;
+      still-open = refl;
+      closed = refl;
       stays = refl;
       used-up = refl;
       six-shown = refl;
@@ -136,13 +166,13 @@ examples =
       interval-due = refl;
     }
 
--- A one-shot that is set, locked over a settled moment, and unlocked: the next settled moment calls it, and the one after that does not.
-pub waits-while-locked : FiresOnce [] 1 (plain 1 0 1 ∷ []) (admin (unlock 1) ∷ settled ∷ admin (lock 1) ∷ []) (settled ∷ [])
-unfolding compute accepted historyOf reading named′.isSelectable Each
+-- A one-shot that is set, locked over a round that settled opened, and unlocked: in the next such round it gets its turn, and in the one after that not.
+pub waits-while-locked : FiresOnce [] 1 (plain 1 0 1 ∷ []) (arrival settled ∷ admin (unlock 1) ∷ next ∷ admin (lock 1) ∷ arrival settled ∷ []) (next ∷ arrival settled ∷ next ∷ [])
+unfolding compute accepted historyOf reading named′.isSelectable named′.isRegistered named′.usesUp named′.settledOpened named′.oneToEight called′.isNamed called′.isCallable called′.arrived called′.since called′.onArrival called′.isOpen called′.waits called′.isDue called′.getsTurn Each
 waits-while-locked =
     one-shot-fires-exactly-once [] 1 _ _ _ refl
-    ((λ ok. (refl, refl, other)), ((λ ok. (refl, refl, λ e. refl)), ((λ ok. (refl, refl, other)), tt)))
-    refl refl ((λ ok. refl), tt)
+    ((λ ok. (refl, refl, other refl)), ((λ ok. (refl, refl, other refl)), ((λ ok. (refl, refl, λ e o. refl)), ((λ ok. (refl, refl, other refl)), ((λ ok. (refl, refl, other refl)), tt)))))
+    refl refl refl ((λ ok. refl), ((λ ok. refl), ((λ ok. refl), tt)))
   where
-    other : {c : AdminCall} {P : Type 0} → admin c ≡ settled → P
-    other e = clashing (ap isSettled e) refl
+    other : {c : Call} {P : Type 0} → isNext c ≡ false → c ≡ next → P
+    other q e = clashing (ap isNext e) q

@@ -16,7 +16,7 @@ use Rattle.rules.specs.Holds.{Desk, Model, nothingDue}
 use Rattle.rules.specs.Desk.{withOutstanding, isDue, handedOut, dueMatters, dueCommand, withFirst, withHandedOut}
 use Rattle.rules.specs.Calls.{Outcome, proactive, systemCommand, response}
 use Rattle.rules.specs.Refusals.{firstHolding, proactiveLines, lines, refusal}
-use Rattle.rules.specs.Step.{proactiveDesk, deskAfter, tablesAfter, changed, answer, front, written, outcome, step}
+use Rattle.rules.specs.Step.{proactiveDesk, deskAfter, tablesAfter, roundAfter, changed, answer, front, written, outcome, step}
 use Rattle.rules.proofs.DueMarks.{marked-same, first-handed}
 use Rattle.history.specs.Handed.{seen, handed}
 use Rattle.history.specs.OnScreen.{leftDue, command, handOuts}
@@ -89,10 +89,10 @@ module _ (m : Model) (buffer : List ℕ) where
 
     -- .. nothing due leaves the card ..
     pub nothing-due : m .desk .due ≡ nothingDue → step m (systemCommand buffer) .after ≡ m
-    unfolding outcome changed tablesAfter deskAfter
+    unfolding outcome changed tablesAfter roundAfter deskAfter
     nothing-due e =
         ap (λ (o : Outcome). o .after) hands-out
-        ∙ ap (λ (d : Desk). record { tables = m .tables; desk = d }) (marked-same (m .tables) (withHandedOut (m .desk)) ∙ first-handed (m .desk) ∙ rw e refl)
+        ∙ ap (λ (d : Desk). record { tables = m .tables; desk = d; round = m .round }) (marked-same (m .tables) (withHandedOut (m .desk)) ∙ first-handed (m .desk) ∙ rw e refl)
 
     -- .. and its mark is cleared
     pub due-left : NeverBoth (m .desk .due) → step m (systemCommand buffer) .after .desk .due ≡ leftDue (m .desk .due)

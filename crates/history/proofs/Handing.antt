@@ -15,14 +15,14 @@ use Rattle.lists.proofs.Truth.{and-false}
 use Rattle.rules.specs.Holds.{Row, Tables, Desk, Model, document}
 use Rattle.rules.specs.Commands.{Menu, shownMenu, shownEvents, interval, menuOf, menuBytes, eventBytes, intervalBytes, offBytes, mayStand}
 use Rattle.rules.specs.Desk.{sameRow?, menuChanges, eventsChange, intervalChanges, isPolled, dueAfter, marked, withMarks, dueAtFirst, withProfile, menu, eventList, pollInterval, pollingOff, handedOut, dueCommand, withHandedOut}
-use Rattle.rules.specs.Calls.{Call, refusedWith, admin, event, entry, timer, arrival, settled, proactive, systemCommand, envelope, profile, status, send, response}
+use Rattle.rules.specs.Calls.{Call, refusedWith, admin, event, entry, timer, arrival, next, proactive, systemCommand, envelope, profile, status, settled, send, response}
 use Rattle.rules.specs.Refusals.{refusal}
 use Rattle.rules.specs.Step.{arrivalDesk, proactiveDesk, deskAfter, tablesAfter, changed, answer, lent, front, written, outcome, step}
 use Rattle.rules.specs.Beside.{freshBy, freshCard}
 use Rattle.rules.specs.Runs.{cardAfter}
 use Rattle.rules.proofs.DueMarks.{first-due, first-handed}
 use Rattle.rules.proofs.Reader.{same-true, accepts}
-use Rattle.history.specs.Deeds.{isProfile, profiles}
+use Rattle.history.specs.Deeds.{ofArrival, isProfile, profiles}
 use Rattle.history.specs.Handed.{titleOf, Seen, seen, seenOf, handed, begins, handedSince, lastMenu, lastList}
 use Rattle.history.proofs.RowsNamed.{same-row}
 use Rattle.history.proofs.Agrees.{plain, ground}
@@ -187,11 +187,11 @@ abbrev taken : Model → Call → Seen
 taken m c = seen c (record { after = changed m c; answer = answer m c; buffer = written m c })
 
 -- .. that is no profile, or is one
-goes-on : (m : Model) (c : Call) (l : List Seen) → isProfile c ≡ false → handedSince (taken m c ∷ l) ≡ handed (taken m c) ∷ handedSince l
+goes-on : (m : Model) (c : Call) (l : List Seen) → ofArrival false isProfile c ≡ false → handedSince (taken m c ∷ l) ≡ handed (taken m c) ∷ handedSince l
 unfolding handedSince begins profiles
 goes-on m c l e = rw (e, and-false (answer m c .refusal == 0)) refl
 
-starts : (m : Model) (c : Call) (l : List Seen) → isProfile c ≡ true → handedSince (taken m c ∷ l) ≡ []
+starts : (m : Model) (c : Call) (l : List Seen) → ofArrival false isProfile c ≡ true → handedSince (taken m c ∷ l) ≡ []
 unfolding handedSince begins profiles
 starts m c l e = rw (e, plain m c) refl
 
@@ -203,7 +203,7 @@ passed-over m c n l = rw (eqb·suc-zero n) refl
 
 -- what an accepted one leaves of the desk
 module _ (title : List ℕ) (m : Model) (l : List Seen) (g : Ground m) (r : Right title (m .tables) (m .desk) (handedSince l)) where
-  quiet : (c : Call) (d : Desk) → isProfile c ≡ false → written m c ≡ [] → Right title (m .tables) d (handedSince l)
+  quiet : (c : Call) (d : Desk) → ofArrival false isProfile c ≡ false → written m c ≡ [] → Right title (m .tables) d (handedSince l)
       → Right title (m .tables) d (handedSince (taken m c ∷ l))
   unfolding handed
   quiet c d e w q =
@@ -212,7 +212,7 @@ module _ (title : List ℕ) (m : Model) (l : List Seen) (g : Ground m) (r : Righ
       (nothing-handed title (m .tables) d (handedSince l) q)
 
   desk-right : (c : Call) → Right title (m .tables) (deskAfter m c) (handedSince (taken m c ∷ l))
-  unfolding deskAfter arrivalDesk proactiveDesk isProfile written answer handed front
+  unfolding deskAfter arrivalDesk proactiveDesk ofArrival isProfile written answer handed front
   desk-right (admin c) = quiet (admin c) (m .desk) refl refl r
   desk-right (event c) = quiet (event c) (m .desk) refl refl r
   desk-right (entry c) = quiet (entry c) (m .desk) refl refl r
@@ -221,7 +221,8 @@ module _ (title : List ℕ) (m : Model) (l : List Seen) (g : Ground m) (r : Righ
   desk-right (arrival (profile bytes)) =
       subst (Right title (m .tables) _) (sym (starts m (arrival (profile bytes)) l refl)) (profiled title (m .tables) bytes (m .desk) (r .title))
   desk-right (arrival status) = quiet (arrival status) (m .desk) refl refl r
-  desk-right settled = quiet settled (m .desk) refl refl r
+  desk-right (arrival settled) = quiet (arrival settled) (m .desk) refl refl r
+  desk-right next = quiet next (m .desk) refl refl r
   desk-right (proactive (send n bytes)) = quiet (proactive (send n bytes)) _ refl refl (record { title = r .title; menu = r .menu; events = r .events; polling = r .polling })
   desk-right (proactive response) = quiet (proactive response) _ refl refl (record { title = r .title; menu = r .menu; events = r .events; polling = r .polling })
   desk-right (systemCommand buffer) =
@@ -233,7 +234,7 @@ module _ (title : List ℕ) (m : Model) (l : List Seen) (g : Ground m) (r : Righ
   one-call : (c : Call) (n : ℕ)
       → Right title (outcome n m c .after .tables) (outcome n m c .after .desk) (handedSince (seen c (outcome n m c) ∷ l))
   unfolding outcome changed
-  one-call c zero = marks-right title (m .tables) (tablesAfter (m .tables) c) (deskAfter m c) _ (desk-right c)
+  one-call c zero = marks-right title (m .tables) (tablesAfter m c) (deskAfter m c) _ (desk-right c)
   one-call c (suc n) =
       subst (Right title (m .tables) (m .desk)) (sym (passed-over m c n l)) (nothing-handed title (m .tables) (m .desk) (handedSince l) r)
 

@@ -16,7 +16,7 @@ use Rattle.rules.specs.Events.{callControl, kindOf}
 use Rattle.rules.specs.Applets.{isNumber, hasNumber, present, nobody, applet, registered, isRegistered, ownedByAnother, forget, withRegistration, register, secondsOf}
 use Rattle.rules.specs.Rows.{nextPair, nextIdentifier, allMade, notItsRow, badText, withEntry}
 use Rattle.rules.specs.Timers.{atLimit, noneFree}
-use Rattle.rules.specs.Calls.{saying, numbered, Call, admin, event, entry, timer, arrival, settled, proactive, systemCommand, EventCall, setEvent, clearEvent, askEvent, requestPoll, EntryCall, newEntry, changeEntry, enableEntry, disableEntry, TimerCall, allocate, release}
+use Rattle.rules.specs.Calls.{saying, numbered, Call, admin, event, entry, timer, arrival, next, proactive, systemCommand, EventCall, setEvent, clearEvent, askEvent, requestPoll, EntryCall, newEntry, changeEntry, enableEntry, disableEntry, TimerCall, allocate, release}
 use Rattle.rules.specs.Refusals.{line, firstHolding, absent, eventLines, entryLines, timerLines, lines, refusal}
 use Rattle.rules.specs.Step.{eventTables, entryTables, timerTables, tablesAfter, changed, eventAnswer, entryAnswer, timerAnswer, answer, outcome, step}
 
@@ -27,7 +27,7 @@ registers? (event c) = true
 registers? (entry c) = true
 registers? (timer c) = true
 registers? (arrival c) = false
-registers? settled = false
+registers? next = false
 registers? (proactive c) = false
 registers? (systemCommand buffer) = false
 
@@ -51,7 +51,7 @@ module _ (k : ℕ) (b : Bool) where
   withLock t = withApplets t (change (hasNumber k) (withSelectable b) (t .applets))
 
   abbrev pub relocked : Model → Model
-  relocked m = record { tables = withLock (m .tables); desk = m .desk }
+  relocked m = record { tables = withLock (m .tables); desk = m .desk; round = m .round }
 
   -- y is x but for the lock
   abbrev But : Applet → Applet → Type 0
@@ -154,7 +154,7 @@ module _ (k : ℕ) (b : Bool) where
   record Unseen (m : Model) (c : Call) : Type 0 where
     lined : lines (relocked m) c ≡ lines m c
     answered : answer (relocked m) c ≡ answer m c
-    tabled : tablesAfter (withLock (m .tables)) c ≡ withLock (tablesAfter (m .tables) c)
+    tabled : tablesAfter (relocked m) c ≡ withLock (tablesAfter m c)
 
   unseen : (m : Model) (c : Call) → registers? c ≡ true → Unseen m c
   unfolding registers? lines answer tablesAfter
@@ -163,7 +163,7 @@ module _ (k : ℕ) (b : Bool) where
   unseen m (entry c) e = record { lined = entry-lines (m .tables) c; answered = entry-answer (m .tables) c; tabled = entry-tables (m .tables) c }
   unseen m (timer c) e = record { lined = timer-lines (m .tables) c; answered = timer-answer (m .tables) c; tabled = timer-tables (m .tables) c }
   unseen m (arrival c) e = clashing e refl
-  unseen m settled e = clashing e refl
+  unseen m next e = clashing e refl
   unseen m (proactive c) e = clashing e refl
   unseen m (systemCommand buffer) e = clashing e refl
 

@@ -46,7 +46,7 @@ module _ (m : Model) (h : History) (g : AgreeDesk (m .desk) h) (x : Call) (begun
   goes-on = session-after m h x g ∙ ap (λ (b : Bool). profiles (did x (answer m x)) || b) begun ∙ or-true (profiles (did x (answer m x)))
 
   abbrev u : Tables
-  u = tablesAfter (m .tables) x
+  u = tablesAfter m x
 
   turned : (interval (m .tables) ≡ interval u → ⊥) → OfPolling (marked (m .tables) u (deskAfter m x) .due) (not (interval u == 0)) (interval u == 0)
   unfolding marked dueAfter intervalChanges isPolled

@@ -24,7 +24,7 @@ use Rattle.rules.specs.Holds.{Row, Tables, Model}
 use Rattle.rules.specs.Rows.{hasIdentifier, itsRow, inUse, place, nextPair, nextIdentifier, withEntry, withText, withEnabled, withoutRows}
 use Rattle.rules.specs.Applets.{applet}
 use Rattle.rules.specs.Held.{noRow}
-use Rattle.rules.specs.Calls.{Call, admin, event, entry, timer, arrival, settled, proactive, systemCommand, install, delete, lock, unlock, newEntry, changeEntry, enableEntry, disableEntry, allocate, release}
+use Rattle.rules.specs.Calls.{Call, admin, event, entry, timer, arrival, next, proactive, systemCommand, install, delete, lock, unlock, newEntry, changeEntry, enableEntry, disableEntry, allocate, release}
 use Rattle.rules.specs.Refusals.{refusal}
 use Rattle.rules.specs.Step.{adminTables, entryTables, timerTables, tablesAfter, changed, entryAnswer, answer, outcome, step}
 use Rattle.rules.specs.Runs.{cardAfter}
@@ -34,7 +34,7 @@ use Rattle.runs.proofs.Looked.{has-its-number}
 use Rattle.runs.proofs.Next.{next-unused}
 use Rattle.history.proofs.Agrees.{ground}
 use Rattle.history.proofs.Answered.{passes}
-use Rattle.history.proofs.Applets.{event-rows}
+use Rattle.history.proofs.Applets.{event-rows, turn-rows}
 use Rattle.history.proofs.Promises.{m}
 
 -- the identifiers of rows, in the menu list's order
@@ -97,8 +97,8 @@ module _ (p : ℕ → Bool) where
 
   -- an accepted call
   tables-order : (x : Model) (s : SoundTables (x .tables)) (c : Call) → refusal x c ≡ 0
-      → AllInUse (x .tables .rows) → AllInUse (tablesAfter (x .tables) c .rows)
-      → keep p (order (tablesAfter (x .tables) c .rows)) ≡ keep p (order (x .tables .rows))
+      → AllInUse (x .tables .rows) → AllInUse (tablesAfter x c .rows)
+      → keep p (order (tablesAfter x c .rows)) ≡ keep p (order (x .tables .rows))
   unfolding tablesAfter adminTables entryTables timerTables withEntry withText withEnabled nextIdentifier
   tables-order x s (admin (install n r)) ok u v = refl
   tables-order x s (admin (delete n)) ok u v = without-order (x .tables) s n v
@@ -106,13 +106,13 @@ module _ (p : ℕ → Bool) where
   tables-order x s (admin (unlock n)) ok u v = refl
   tables-order x s (event c) ok u v = ap (λ rows. keep p (order rows)) (event-rows (x .tables) c)
   tables-order x s (entry (newEntry n help text)) ok u v =
-      ap (keep p) (map-insertAt identifierOf _ _ (x .tables .rows)) ∙ insert-unseen _ next (order (x .tables .rows)) (unseen (p next) refl)
+      ap (keep p) (map-insertAt identifierOf _ _ (x .tables .rows)) ∙ insert-unseen _ given (order (x .tables .rows)) (unseen (p given) refl)
     where
-      next : ℕ
-      next = nextIdentifier (applet (x .tables) n) (x .tables .rows)
+      given : ℕ
+      given = nextIdentifier (applet (x .tables) n) (x .tables .rows)
 
-      unseen : (b : Bool) → p next ≡ b → b ≡ false
-      unseen true e = let a = new-entry x n help text ok in clashing (u next e) (next-unused (x .tables) s n (a .here) (a .more))
+      unseen : (b : Bool) → p given ≡ b → b ≡ false
+      unseen true e = let a = new-entry x n help text ok in clashing (u given e) (next-unused (x .tables) s n (a .here) (a .more))
       unseen false e = refl
   tables-order x s (entry (changeEntry n i help text)) ok u v = ap (keep p) (keys-change identifierOf noRow _ (λ r. refl) (itsRow n i) (x .tables .rows))
   tables-order x s (entry (enableEntry n i)) ok u v = ap (keep p) (keys-change identifierOf noRow _ (λ r. refl) (itsRow n i) (x .tables .rows))
@@ -120,7 +120,7 @@ module _ (p : ℕ → Bool) where
   tables-order x s (timer (allocate n)) ok u v = refl
   tables-order x s (timer (release n k)) ok u v = refl
   tables-order x s (arrival c) ok u v = refl
-  tables-order x s settled ok u v = refl
+  tables-order x s next ok u v = ap (λ rows. keep p (order rows)) (turn-rows (x .tables) (x .round))
   tables-order x s (proactive c) ok u v = refl
   tables-order x s (systemCommand buffer) ok u v = refl
 

@@ -20,7 +20,7 @@ use Rattle.lists.proofs.Times.{if-same}
 use Rattle.rules.specs.Holds.{Bounds, Tables, document}
 use Rattle.rules.specs.Applets.{forget}
 use Rattle.rules.specs.Timers.{isOwner, lowestFree, ownerOf, withAllocated, withReleased, withoutTimers}
-use Rattle.rules.specs.Calls.{admin, event, entry, timer, arrival, settled, proactive, systemCommand, install, delete, lock, unlock, newEntry, changeEntry, enableEntry, disableEntry, allocate, release}
+use Rattle.rules.specs.Calls.{admin, event, entry, timer, arrival, next, proactive, systemCommand, install, delete, lock, unlock, newEntry, changeEntry, enableEntry, disableEntry, allocate, release}
 use Rattle.rules.specs.Step.{adminTables, eventTables, entryTables, timerTables, tablesAfter, timerAnswer, answer}
 use Rattle.runs.specs.Sound.{SoundTables, NobodyOrPresent}
 use Rattle.runs.proofs.Filled.{allocates}
@@ -29,7 +29,8 @@ use Rattle.runs.proofs.Looked.{number-from, number-to}
 use Rattle.history.specs.Named.{ownsTimer}
 use Rattle.history.proofs.Open.{reading}
 use Rattle.history.proofs.Agree.{Kept}
-use Rattle.history.proofs.Applets.{event-timers}
+use Rattle.history.proofs.Applets.{event-timers, turn-timers}
+use Rattle.history.proofs.Calling.{timer-owner}
 use Rattle.history.proofs.Registered.{forgotten}
 
 module _ (t : Tables) (b : t .bounds ≡ document) (s : SoundTables t) where
@@ -39,12 +40,7 @@ module _ (t : Tables) (b : t .bounds ≡ document) (s : SoundTables t) where
   within o (inr e) = omega (arith, number-to t s o e, ap (λ (z : Bounds). z .applets) b)
 
   pub timer-within : (k : ℕ) → ownerOf (t .timers) k ≤ 8
-  unfolding ownerOf
-  timer-within k = go (k == 0)
-    where
-      go : (x : Bool) → (if x then 0 else getD (t .timers) (k - 1) 0) ≤ 8
-      go true = omega arith
-      go false = within _ (every-getD (NobodyOrPresent t) 0 (inl refl) (t .timers) (k - 1) (s .each-timer))
+  timer-within k = within _ (timer-owner t s k)
 
   -- a number that is no owner's is nobody's
   free : (o : ℕ) → NobodyOrPresent t o → isOwner o ≡ false → o ≡ 0
@@ -104,22 +100,22 @@ timers-kept m h (entry (changeEntry b i help text)) ok s g k n o = g .timers k n
 timers-kept m h (entry (enableEntry b i)) ok s g k n o = g .timers k n o
 timers-kept m h (entry (disableEntry b i)) ok s g k n o = g .timers k n o
 timers-kept m h (timer (allocate b)) ok s g k n o =
-    ap (λ (z : ℕ). z == n) (given (m .tables .timers) next k b some-free)
-    ∙ go (suc next == k) (b == n) refl refl
+    ap (λ (z : ℕ). z == n) (given (m .tables .timers) lowest k b some-free)
+    ∙ go (suc lowest == k) (b == n) refl refl
   where
-    next : ℕ
-    next = leading isOwner (m .tables .timers)
+    lowest : ℕ
+    lowest = leading isOwner (m .tables .timers)
 
-    some-free : next < length (m .tables .timers)
+    some-free : lowest < length (m .tables .timers)
     some-free = allocates m b ok .free
 
-    go : (x y : Bool) → (suc next == k) ≡ x → (b == n) ≡ y
+    go : (x y : Bool) → (suc lowest == k) ≡ x → (b == n) ≡ y
         → ((if x then b else ownerOf (m .tables .timers) k) == n) ≡ (if y && x then true else ownsTimer k n h)
     go true true p q = q
     go true false p q =
         q
         ∙ sym (ne-eqb 0 n (λ z. absurd (omega arith)))
-        ∙ ap (λ (z : ℕ). z == n) (sym (at-suc (m .tables .timers) next ∙ unowned (m .tables) (s .bounds) (s .sound .tables) some-free) ∙ ap (ownerOf (m .tables .timers)) (eqb-true (suc next) k p))
+        ∙ ap (λ (z : ℕ). z == n) (sym (at-suc (m .tables .timers) lowest ∙ unowned (m .tables) (s .bounds) (s .sound .tables) some-free) ∙ ap (ownerOf (m .tables .timers)) (eqb-true (suc lowest) k p))
         ∙ g .timers k n o
     go false true p q = g .timers k n o
     go false false p q = g .timers k n o
@@ -132,6 +128,6 @@ timers-kept m h (timer (release b (suc j))) ok s g k n o =
     go true = ne-eqb 0 n (λ z. absurd (omega arith))
     go false = g .timers k n o
 timers-kept m h (arrival c) ok s g k n o = g .timers k n o
-timers-kept m h settled ok s g k n o = g .timers k n o
+timers-kept m h next ok s g k n o = ap (λ (l : List ℕ). ownerOf l k == n) (turn-timers (m .tables) (m .round)) ∙ g .timers k n o
 timers-kept m h (proactive c) ok s g k n o = g .timers k n o
 timers-kept m h (systemCommand buffer) ok s g k n o = g .timers k n o

@@ -14,7 +14,7 @@ use Rattle.lists.proofs.Keyed.{some-more, some-less, first-less, some-keys, key
 use Rattle.lists.proofs.Order.{ordered-keep, ordered-snoc, ordered-imply, every-zip, every-changes}
 use Rattle.rules.specs.Holds.{Applet, withSelectable}
 use Rattle.rules.specs.Applets.{hasNumber, nobody, present, applet, newcomer}
-use Rattle.rules.specs.Calls.{admin, event, entry, timer, arrival, settled, proactive, systemCommand, install, delete, lock, unlock, allocate, release}
+use Rattle.rules.specs.Calls.{admin, event, entry, timer, arrival, next, proactive, systemCommand, install, delete, lock, unlock, allocate, release}
 use Rattle.rules.specs.Refusals.{adminLines, lines}
 use Rattle.rules.specs.Step.{adminTables, timerTables, tablesAfter}
 use Rattle.runs.proofs.Accepted.{accepted as none-holds}
@@ -24,7 +24,7 @@ use Rattle.history.specs.Histories.{History}
 use Rattle.history.specs.Named.{isPresent, isSelectable, priorityOf, isLater}
 use Rattle.history.proofs.Open.{reading}
 use Rattle.history.proofs.Agree.{numberOf, Kept}
-use Rattle.history.proofs.Applets.{with-more, with-changed, with-used, used-kept, event-kept, entry-kept, event-each, entry-each, used-each, event-numbers, entry-numbers, used-numbers}
+use Rattle.history.proofs.Applets.{with-more, with-changed, registered-kept, event-kept, entry-kept, registered-each, event-each, entry-each, registered-numbers, event-numbers, entry-numbers, at-turn}
 
 -- the numbers settle who is present
 pub presence-kept : Kept (λ t h. (n : ℕ) → present t n ≡ isPresent n h)
@@ -46,7 +46,8 @@ presence-kept m h (entry c) ok s g n = some-keys numberOf n _ (m .tables .applet
 presence-kept m h (timer (allocate b)) ok s g n = g .presence n
 presence-kept m h (timer (release b k)) ok s g n = g .presence n
 presence-kept m h (arrival c) ok s g n = g .presence n
-presence-kept m h settled ok s g n = some-keys numberOf n _ (m .tables .applets) (used-numbers (m .tables .applets)) ∙ g .presence n
+presence-kept m h next ok s g n =
+    at-turn (λ u. present u n ≡ isPresent n h) (m .tables) (m .round) (g .presence n) (λ b there. some-keys numberOf n _ (m .tables .applets) (registered-numbers (m .tables) b _ false) ∙ g .presence n)
 presence-kept m h (proactive c) ok s g n = g .presence n
 presence-kept m h (systemCommand buffer) ok s g n = g .presence n
 
@@ -88,10 +89,8 @@ selectability-kept m h (entry c) ok s g n = entry-kept (λ x. x .selectable) (λ
 selectability-kept m h (timer (allocate b)) ok s g n = g .selectability n
 selectability-kept m h (timer (release b k)) ok s g n = g .selectability n
 selectability-kept m h (arrival c) ok s g n = g .selectability n
-selectability-kept m h settled ok s g n =
-    ap (λ (x : Applet). x .selectable) (with-used (m .tables .applets) n)
-    ∙ used-kept (λ x. x .selectable) (λ b x. refl) (applet (m .tables) n)
-    ∙ g .selectability n
+selectability-kept m h next ok s g n =
+    at-turn (λ u. applet u n .selectable ≡ isSelectable n h) (m .tables) (m .round) (g .selectability n) (λ b there. registered-kept (λ x. x .selectable) (λ e v x. refl) (m .tables) b n _ false there ∙ g .selectability n)
 selectability-kept m h (proactive c) ok s g n = g .selectability n
 selectability-kept m h (systemCommand buffer) ok s g n = g .selectability n
 
@@ -113,7 +112,8 @@ priorities-kept m h (entry c) ok s g = entry-each (Ranked h) (λ x p. p) (m .tab
 priorities-kept m h (timer (allocate b)) ok s g = g .priorities
 priorities-kept m h (timer (release b k)) ok s g = g .priorities
 priorities-kept m h (arrival c) ok s g = g .priorities
-priorities-kept m h settled ok s g = used-each (Ranked h) (λ b x p. p) (m .tables .applets) (g .priorities)
+priorities-kept m h next ok s g =
+    at-turn (λ u. Every (Ranked h) (u .applets)) (m .tables) (m .round) (g .priorities) (λ b there. registered-each (Ranked h) (λ e v x p. p) (m .tables) b _ false (g .priorities))
 priorities-kept m h (proactive c) ok s g = g .priorities
 priorities-kept m h (systemCommand buffer) ok s g = g .priorities
 
@@ -145,6 +145,7 @@ order-kept m h (entry c) ok s g = same-order h (entry-numbers (m .tables) c) (g 
 order-kept m h (timer (allocate b)) ok s g = g .order
 order-kept m h (timer (release b k)) ok s g = g .order
 order-kept m h (arrival c) ok s g = g .order
-order-kept m h settled ok s g = same-order h (used-numbers (m .tables .applets)) (g .order)
+order-kept m h next ok s g =
+    at-turn (λ u. Ordered (Older h) (map numberOf (u .applets))) (m .tables) (m .round) (g .order) (λ b there. same-order h (registered-numbers (m .tables) b _ false) (g .order))
 order-kept m h (proactive c) ok s g = g .order
 order-kept m h (systemCommand buffer) ok s g = g .order

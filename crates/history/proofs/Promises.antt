@@ -1,30 +1,27 @@
--- DEMAND 3. Take any sequence of calls on a fresh card, refused ones included: one theorem for each sentence, in its order.
--- Assumes nothing.
+-- DEMAND 3. Take any sequence of calls on a fresh card, refused ones included: one theorem for each sentence, in its order. Those of events
+-- stand in Turns, those of one-shots in OneShot. Assumes nothing.
 use Prim.Native.Nat.{ℕ, suc, _≤_}
 use native.Mathlib.Omega.{arith}
-use mathlib.Core.Path.{_≡_, refl, sym, ap, subst, _∙_}
-use mathlib.Core.Bool.{Bool, true, false, not, _&&_}
+use mathlib.Core.Path.{_≡_, refl, sym, ap, _∙_}
+use mathlib.Core.Bool.{Bool, true, false, _&&_}
 use mathlib.Core.List.{List, _∷_, map}
 use lib.ListN.{length}
 use lib.IntN.{ℤ}
 use borrow.Author.Tests.{eqb-true}
 use Rattle.lists.specs.Tests.{if_then_else_, _==_}
-use Rattle.lists.specs.Lists.{Every, count, first, some?, times}
+use Rattle.lists.specs.Lists.{Every, count, first, times}
 use Rattle.lists.proofs.Counts.{count-alike, count-map}
 use Rattle.lists.proofs.Mapped.{map-length}
-use Rattle.lists.proofs.Times.{if-same, count-all, count-one, first-alike}
+use Rattle.lists.proofs.Times.{count-all, count-one, first-alike}
 use Rattle.rules.specs.declared.Kind.the-variants.{Event}
-use Rattle.rules.specs.declared.Envelope.the-variants.{Menu, Expiry}
 use Rattle.rules.specs.Holds.{Row, Bounds, Model, document}
-use Rattle.rules.specs.Events.{callControl, handlerAvailable, kindOf}
+use Rattle.rules.specs.Events.{callControl, kindOf}
 use Rattle.rules.specs.Rows.{hasIdentifier}
 use Rattle.rules.specs.Timers.{ownerOf}
 use Rattle.rules.specs.Applets.{hasNumber, nobody, present, applet}
 use Rattle.rules.specs.Applets as rules
-use Rattle.rules.specs.Envelopes.{envelopeOf, badEnvelope}
-use Rattle.rules.specs.Arrivals.{arrivalOf}
 use Rattle.rules.specs.Commands.{menuBytes, menuOf, shownMenu}
-use Rattle.rules.specs.Calls.{Call, event, askEvent, arrival, envelope, status, settled}
+use Rattle.rules.specs.Calls.{Call, event, askEvent}
 use Rattle.rules.specs.Desk.{sameRow?}
 use Rattle.rules.specs.Refusals.{eventLines, lines, refusal}
 use Rattle.rules.specs.Step.{eventAnswer, answer, step}
@@ -36,17 +33,14 @@ use Rattle.runs.proofs.Accepted.{accepted as none-holds}
 use Rattle.runs.proofs.Filled.{is-here}
 use Rattle.runs.proofs.Looked.{number-from, number-to}
 use Rattle.history.specs.Histories.{did, History, accepted}
-use Rattle.history.specs.Deeds.{sets, clears, deletes}
-use Rattle.history.specs.Named.{isPresent, isSelectable, isRegistered, pollOf, ownsTimer, hasOneShot, usesUp, ownsControl, oneToEight, timerOwner, controlOwner, rowsNamed, inSession, isOutstanding}
-use Rattle.history.specs.Called.{isChosen, isHelped, isNamed, isDue, Calls, arrivalIn}
+use Rattle.history.specs.Named.{isPresent, isRegistered, pollOf, ownsTimer, ownsControl, oneToEight, timerOwner, controlOwner, rowsNamed, inSession, isOutstanding}
 use Rattle.history.specs.Runs.{historyOf}
-use Rattle.history.proofs.Open.{reading}
 use Rattle.history.proofs.Agree.{numberOf, Agree}
-use Rattle.history.proofs.Agrees.{accepted-more, accepted-same, ground, agrees}
+use Rattle.history.proofs.Agrees.{accepted-same, ground, agrees}
 use Rattle.history.proofs.Owners.{within, timer-within}
 use Rattle.history.proofs.RowsNamed.{same-row}
-use Rattle.history.proofs.Calling.{calls as calls-hold, told, due-there, one-list-only}
-use Rattle.history.proofs.Answered.{passes, answers, refuses, calls-those, reads, status-is-taken}
+use Rattle.history.proofs.Calling.{told}
+use Rattle.history.proofs.Answered.{passes, answers, refuses}
 use Rattle.history.proofs.Fits.{menu-fits}
 use Rattle.history.proofs.Eight.{the-one-is, counted-by-place, length-due}
 
@@ -159,81 +153,9 @@ module _ (title : List ℕ) (calls : List Call) where
       counted-by-place (λ o. o == n) (m .tables .timers) (sound .all-timers ∙ ap (λ (b : Bounds). b .timers) bounds)
       ∙ count-alike _ (λ k. ownsTimer k n h) (λ k. agree .tables .timers k n i) oneToEight
 
-  -- EVERY ACCEPTED EVENT names each selectable applet that the history registers for it, once, in order, and no other ..
-  module _ (c : Call) (ok : step m c .answer .refusal ≡ 0) where
-    pub event-names-each-once-in-order : Calls h (arrivalIn c) (step m c .answer .called)
-    event-names-each-once-in-order =
-        subst (Calls h (arrivalIn c)) (sym (ap (λ a. a .called) (answers m c (passes m c ok)) ∙ calls-those m c))
-        (calls-hold (m .tables) h sound (agree .tables) (arrivalIn c))
-
-    -- .. and no second list meets that.
-    pub no-second-list : (l : List ℕ) → Calls h (arrivalIn c) l → l ≡ step m c .answer .called
-    no-second-list l k = one-list-only h (arrivalIn c) l _ k event-names-each-once-in-order
-
-    -- The list is as long as the list of applets that are to be called.
-    pub as-many-as-are-due : length (step m c .answer .called) ≡ count (isDue h (arrivalIn c)) oneToEight
-    as-many-as-are-due =
-        length-due _ (isDue h (arrivalIn c)) (event-names-each-once-in-order .once)
-        (λ n e. from-1-to-8 n (due-there (m .tables) h sound (agree .tables) (arrivalIn c) n e))
-
-  -- An envelope that says so, in its bytes, calls these and no other ..
-  module _ (bytes : List ℕ) (n : ℕ) where
-    -- how often applet n is called
-    abbrev pub heard : ℕ
-    heard = times n (step m (arrival (envelope bytes)) .answer .called)
-
-    heard-is : badEnvelope (envelopeOf bytes) ≡ false → heard ≡ (if isDue h (arrivalOf (envelopeOf bytes)) n then 1 else 0)
-    unfolding arrivalIn
-    heard-is e = event-names-each-once-in-order (arrival (envelope bytes)) (reads m bytes e) .once n
-
-    -- .. a menu choice counts only while its row is enabled ..
-    pub choice-needs-an-enabled-row : (i : ℕ) → envelopeOf bytes ≡ Menu i false
-        → heard ≡ (if isSelectable n h && some? (isChosen i n) (rowsNamed h) then 1 else 0)
-    unfolding isDue isNamed arrivalOf badEnvelope
-    choice-needs-an-enabled-row i e = heard-is (ap badEnvelope e) ∙ rw e refl
-
-    -- .. a help request only while that row also offers help ..
-    pub help-needs-a-row-with-help : (i : ℕ) → envelopeOf bytes ≡ Menu i true
-        → heard ≡ (if isSelectable n h && some? (isHelped i n) (rowsNamed h) then 1 else 0)
-    unfolding isDue isNamed arrivalOf badEnvelope
-    help-needs-a-row-with-help i e = heard-is (ap badEnvelope e) ∙ rw e refl
-
-    -- .. the end of a timer calls the owner that the history names ..
-    pub expiry-calls-the-owner : (k : ℕ) → envelopeOf bytes ≡ Expiry k
-        → heard ≡ (if isSelectable n h && ownsTimer k n h then 1 else 0)
-    unfolding isDue isNamed arrivalOf badEnvelope
-    expiry-calls-the-owner k e = heard-is (ap badEnvelope e) ∙ rw e refl
-
-  -- .. and a STATUS calls those whose request, as the history names it, is not none.
-  pub status-calls-those-who-request : (n : ℕ)
-      → times n (step m (arrival status) .answer .called) ≡ (if isSelectable n h && not (pollOf n h == 0) then 1 else 0)
-  unfolding isDue isNamed arrivalIn
-  status-calls-those-who-request n = event-names-each-once-in-order (arrival status) (status-is-taken m) .once n
-
   -- THE POLL INTERVAL that an applet requests is the one that it last requested since it was installed.
   pub request-is-the-one-named : (n : ℕ) → applet (m .tables) n .poll ≡ pollOf n h
   request-is-the-one-named n = agree .tables .poll n
-
-  -- A ONE-SHOT fires exactly at an accepted settled moment that finds its applet selectable ..
-  module _ (n : ℕ) (ok : step m settled .answer .refusal ≡ 0) where
-    pub one-shot-fires : times n (step m settled .answer .called) ≡ (if isSelectable n h && hasOneShot n h then 1 else 0)
-    unfolding isDue isNamed arrivalIn hasOneShot
-    one-shot-fires = event-names-each-once-in-order settled ok .once n
-
-    -- .. and is used up then; that of a locked applet stays.
-    pub one-shot-is-used-up : hasOneShot n (past title (settled ∷ calls)) ≡ (if isSelectable n h then false else hasOneShot n h)
-    unfolding historyOf hasOneShot isRegistered usesUp reading
-    one-shot-is-used-up = ap (hasOneShot n) (accepted-more settled _ (historyOf title calls) ok)
-
-  -- Until then any other accepted call leaves it that neither clears it nor deletes its applet.
-  pub one-shot-lasts : (n : ℕ) (c : Call) → step m c .answer .refusal ≡ 0
-      → clears n handlerAvailable (did c (step m c .answer)) ≡ false → deletes n (did c (step m c .answer)) ≡ false
-      → usesUp n handlerAvailable (did c (step m c .answer)) h ≡ false → hasOneShot n h ≡ true
-      → hasOneShot n (past title (c ∷ calls)) ≡ true
-  unfolding historyOf hasOneShot isRegistered
-  one-shot-lasts n c ok x y z e =
-      ap (hasOneShot n) (accepted-more c _ (historyOf title calls) ok)
-      ∙ rw (x, y, z, e) (if-same (sets n handlerAvailable (did c (step m c .answer))) true)
 
   -- What is asked of a registration is told as the history names it.
   pub asking-tells-what-is-named : (n e : ℕ) (v : ℤ) → kindOf v ≡ Event e → step m (event (askEvent n v)) .answer .refusal ≡ 0
@@ -251,15 +173,3 @@ module _ (title : List ℕ) (calls : List Call) where
 
   pub outstanding-is-named : m .desk .outstanding ≡ isOutstanding h
   outstanding-is-named = agree .desk .outstanding
-
--- A one-shot that a settled moment has used up does not fire at the next.
-pub one-shot-fires-once : (title : List ℕ) (calls : List Call) (n : ℕ) → step (m title calls) settled .answer .refusal ≡ 0
-    → step (m title (settled ∷ calls)) settled .answer .refusal ≡ 0 → isSelectable n (past title calls) ≡ true
-    → times n (step (m title (settled ∷ calls)) settled .answer .called) ≡ 0
-one-shot-fires-once title calls n ok again e =
-    one-shot-fires title (settled ∷ calls) n again
-    ∙ rw (one-shot-is-used-up title calls n ok, e) (none (isSelectable n (past title (settled ∷ calls))))
-  where
-    none : (b : Bool) → _≡_ {A = ℕ} (if b && false then 1 else 0) 0
-    none true = refl
-    none false = refl

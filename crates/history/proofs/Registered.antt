@@ -1,40 +1,45 @@
 -- Registrations: each event that is kept applet by applet, the one-shot among them, and call control; and requests for polling.
 -- Assumes nothing.
-use Prim.Native.Nat.{ℕ, suc, _+_, _≤_, _<_}
+use Prim.Native.Nat.{ℕ, _≤_, _<_}
 use native.Mathlib.Omega.{arith}
 use mathlib.Core.Path.{_≡_, refl, sym, ap, _∙_}
 use mathlib.Core.Bool.{Bool, true, false, not, _&&_}
 use mathlib.Core.List.{List, [], _∷_}
 use lib.IntN.{ℤ}
 use lib.Signed.{ltZ}
-use lib.ListN.{length, getD}
+use lib.ListN.{length, getD, take}
 use borrow.Author.Tests.{eqb-true, eqb-false, ne-eqb}
 use Rattle.lists.specs.Tests.{if_then_else_, _==_}
-use Rattle.lists.specs.Lists.{Every, first, change}
-use Rattle.lists.proofs.Decided.{clashing}
+use Rattle.lists.specs.Lists.{Every, some?, first, change, in?}
+use Rattle.lists.proofs.Decided.{clashing, turned}
+use Rattle.lists.proofs.Truth.{and-false, and-true, or-false}
 use Rattle.lists.proofs.Times.{if-map}
 use Rattle.lists.proofs.Places.{getD-set, getD-blank}
 use Rattle.lists.proofs.Keyed.{first-less}
 use Rattle.rules.specs.declared.Kind.{Kind}
 use Rattle.rules.specs.declared.Kind.the-variants.{Event, Issuer, Reserved, Unsupported}
-use Rattle.rules.specs.Holds.{Applet, Tables, withApplets, withControl, withEvent, withSelectable, withPoll}
-use Rattle.rules.specs.Events.{callControl, minus, supported, hasValue, named, kindOf, isControl}
+use Rattle.rules.specs.Holds.{Applet, Tables, Round, Model, withApplets, withControl, withEvent, withSelectable, withPoll}
+use Rattle.rules.specs.Events.{callControl, handlerAvailable, minus, supported, hasValue, kindOf, isControl}
+use Rattle.rules.specs.Events as events
 use Rattle.rules.specs.Applets.{hasNumber, nobody, present, applet, newcomer, forget, ownedByAnother, register, withRegistration, secondsOf}
-use Rattle.rules.specs.Calls.{admin, event, entry, timer, arrival, settled, proactive, systemCommand, install, delete, lock, unlock, setEvent, clearEvent, askEvent, requestPoll, newEntry, changeEntry, enableEntry, disableEntry, allocate, release}
-use Rattle.rules.specs.Refusals.{adminLines, eventLines, lines}
-use Rattle.rules.specs.Step.{adminTables, eventTables, entryTables, timerTables, tablesAfter}
+use Rattle.rules.specs.Calls.{Call, admin, event, entry, timer, arrival, next, proactive, systemCommand, install, delete, lock, unlock, setEvent, clearEvent, askEvent, requestPoll, newEntry, changeEntry, enableEntry, disableEntry, allocate, release}
+use Rattle.rules.specs.Refusals.{adminLines, eventLines, lines, refusal}
+use Rattle.rules.specs.Rounds.{turns, named, bySettled, usedUp}
+use Rattle.rules.specs.Step.{adminTables, eventTables, entryTables, timerTables, tablesAfter, answer}
 use Rattle.runs.specs.Sound.{SoundTables}
 use Rattle.runs.proofs.Accepted.{accepted as none-holds}
 use Rattle.runs.proofs.Filled.{is-here}
 use Rattle.runs.proofs.Filled as filled
 use Rattle.runs.proofs.Looked.{sound-applet, absent-nobody}
-use Rattle.runs.proofs.Registered.{used-event}
+use Rattle.history.specs.Histories.{did, History}
 use Rattle.history.specs.Deeds.{isEvent}
-use Rattle.history.specs.Named.{usesUp, isRegistered, pollOf}
+use Rattle.history.specs.Named.{settledOpened, usesUp, isRegistered, pollOf}
 use Rattle.history.proofs.Open.{reading}
-use Rattle.history.proofs.Agree.{numberOf, Kept}
-use Rattle.history.proofs.Applets.{with-more, with-changed, with-kept, with-used, used-kept, registered-kept, entry-kept}
+use Rattle.history.proofs.Agree.{numberOf, AgreeTables, AgreeRound, Ground, Kept}
+use Rattle.history.proofs.Applets.{with-more, with-changed, with-kept, registered-kept, entry-kept, turns-there, at-turn}
 use Rattle.history.proofs.Present.{or-none}
+use Rattle.history.proofs.Settled.{named-below, by-settled}
+use Rattle.history.proofs.RoundNamed.{is-open}
 
 -- a mark that the entry does not set stays
 nothing-marked : (b v y : Bool) → y ≡ (if b && false then v else y)
@@ -42,21 +47,11 @@ nothing-marked true v y = refl
 nothing-marked false v y = refl
 
 -- The events of document 01 have places below 20, and so has what an applet keeps.
-pub named-below : {A : Type 0} (p : A → Bool) (e : ℕ) (l : List A) (f : ℕ) → named p e l ≡ Event f → f < e + length l
-unfolding named
-named-below p e [] f q = let z : _≡_ {A = ℕ} 0 1 = cc in absurd (omega arith)
-named-below p e (x ∷ l) f q = go (p x) q (λ r. named-below p (suc e) l f r)
-  where
-    go : (b : Bool) → (if b then Event e else named p (suc e) l) ≡ Event f → (named p (suc e) l ≡ Event f → f < suc e + length l)
-        → f < e + suc (length l)
-    go true r i = let z : e ≡ f = cc in omega arith
-    go false r i = omega (arith, i r)
-
 below : (v : ℤ) (f : ℕ) → kindOf v ≡ Event f → f < 20
 unfolding kindOf
 below v f q = go (ltZ v (minus 128)) (ltZ v (minus 64)) q
   where
-    go : (a b : Bool) → (if a then Reserved else if b then Issuer else named (hasValue v) 0 supported) ≡ Event f → f < 20
+    go : (a b : Bool) → (if a then Reserved else if b then Issuer else events.named (hasValue v) 0 supported) ≡ Event f → f < 20
     go true b r = let z : _≡_ {A = ℕ} 0 1 = cc in absurd (omega arith)
     go false true r = let z : _≡_ {A = ℕ} 0 1 = cc in absurd (omega arith)
     go false false r = omega (arith, named-below (hasValue v) 0 supported f r)
@@ -97,9 +92,32 @@ register-seen t l m n e Issuer v h b q = nothing-marked (m == n) v (getD (first 
 register-seen t l m n e Reserved v h b q = nothing-marked (m == n) v (getD (first (hasNumber n) nobody (t .applets) .events) e false)
 register-seen t l m n e Unsupported v h b q = nothing-marked (m == n) v (getD (first (hasNumber n) nobody (t .applets) .events) e false)
 
-pub events-kept : Kept (λ t h. (n e : ℕ) → (e == callControl) ≡ false → getD (applet t n .events) e false ≡ isRegistered n e h)
-unfolding tablesAfter adminTables eventTables timerTables applet present newcomer adminLines eventLines lines Every isRegistered usesUp reading
-events-kept m h (admin (install b r)) ok s g n e q =
+-- the one-shot of the one named is used up in a round that settled opened
+turn-seen : (t : Tables) → SoundTables t → (r : Round) (h : History) → bySettled (r .arrived) ≡ settledOpened h → (n e : ℕ) → (e == callControl) ≡ false
+    → getD (applet (usedUp (r .arrived) (named t r) t) n .events) e false
+    ≡ (if in? n (named t r) && (e == handlerAvailable && settledOpened h) then false else getD (applet t n .events) e false)
+unfolding named
+turn-seen t s r h k n e q = go (turns t r) (turns-there t r)
+  where
+    go : (l : List ℕ) → Every (λ n. present t n ≡ true) l
+        → getD (applet (usedUp (r .arrived) (take 1 l) t) n .events) e false
+        ≡ (if in? n (take 1 l) && (e == handlerAvailable && settledOpened h) then false else getD (applet t n .events) e false)
+    go [] there = unfold usedUp in? some? in refl
+    go (m ∷ l) there = unfold usedUp in? some? in rw (k, or-false (m == n)) (at (settledOpened h))
+      where
+        at : (b : Bool)
+            → getD (applet (if b then withRegistration t m handlerAvailable false else t) n .events) e false
+            ≡ (if m == n && (e == handlerAvailable && b) then false else getD (applet t n .events) e false)
+        at true =
+            unfold register isEvent Every in
+            register-seen t (twenty t s) m n e (Event handlerAvailable) false (there .0) (λ f z. let w : handlerAvailable ≡ f = cc in omega arith) q
+            ∙ rw (turned handlerAvailable e, and-true (e == handlerAvailable)) refl
+        at false = rw (and-false (e == handlerAvailable), and-false (m == n)) refl
+
+pub events-kept : (m : Model) (h : History) → AgreeRound (m .round) h → (c : Call) → refusal m c ≡ 0 → Ground m → AgreeTables (m .tables) h
+    → (n e : ℕ) → (e == callControl) ≡ false → getD (applet (tablesAfter m c) n .events) e false ≡ isRegistered n e (did c (answer m c) ∷ h)
+unfolding tablesAfter adminTables eventTables timerTables applet present newcomer adminLines eventLines lines answer Every isRegistered usesUp reading
+events-kept m h o (admin (install b r)) ok s g n e q =
     ap (λ (x : Applet). getD (x .events) e false) (with-more (m .tables) b r n (filled.installs m b r ok .new))
     ∙ if-map (λ (x : Applet). getD (x .events) e false) (b == n) (newcomer b r) (applet (m .tables) n)
     ∙ go (b == n) refl
@@ -109,40 +127,40 @@ events-kept m h (admin (install b r)) ok s g n e q =
         → (if c then getD (nobody .events) e false else getD (applet (m .tables) n .events) e false) ≡ getD (applet (m .tables) n .events) e false
     go true z = ap (λ (x : Applet). getD (x .events) e false) (sym (absent-nobody (m .tables) n (rw (eqb-true b n z) at (filled.installs m b r ok .new))))
     go false z = refl
-events-kept m h (admin (delete b)) ok s g n e q =
+events-kept m h o (admin (delete b)) ok s g n e q =
     ap (λ (x : Applet). getD (x .events) e false) (first-less numberOf nobody n b (m .tables .applets))
     ∙ if-map (λ (x : Applet). getD (x .events) e false) (b == n) nobody (applet (m .tables) n)
     ∙ ap (λ (x : Bool). if b == n then x else getD (applet (m .tables) n .events) e false) (getD-blank false 20 e)
     ∙ ap (λ (x : Bool). if b == n then false else x) (g .events n e q)
-events-kept m h (admin (lock b)) ok s g n e q =
+events-kept m h o (admin (lock b)) ok s g n e q =
     with-kept (m .tables .applets) (withSelectable false) (λ x. refl) (λ (x : Applet). getD (x .events) e false) (λ x. refl) b n (is-here (m .tables) b (none-holds m (admin (lock b)) ok .0))
     ∙ g .events n e q
-events-kept m h (admin (unlock b)) ok s g n e q =
+events-kept m h o (admin (unlock b)) ok s g n e q =
     with-kept (m .tables .applets) (withSelectable true) (λ x. refl) (λ (x : Applet). getD (x .events) e false) (λ x. refl) b n (is-here (m .tables) b (none-holds m (admin (unlock b)) ok .0))
     ∙ g .events n e q
-events-kept m h (event (setEvent b v)) ok s g n e q =
+events-kept m h o (event (setEvent b v)) ok s g n e q =
     register-seen (m .tables) (twenty (m .tables) (s .sound .tables)) b n e (kindOf v) true (is-here (m .tables) b (none-holds m (event (setEvent b v)) ok .0)) (below v) q
     ∙ ap (λ (x : Bool). if b == n && isEvent e (kindOf v) then true else x) (g .events n e q)
-events-kept m h (event (clearEvent b v)) ok s g n e q =
+events-kept m h o (event (clearEvent b v)) ok s g n e q =
     register-seen (m .tables) (twenty (m .tables) (s .sound .tables)) b n e (kindOf v) false (is-here (m .tables) b (none-holds m (event (clearEvent b v)) ok .0)) (below v) q
     ∙ ap (λ (x : Bool). if b == n && isEvent e (kindOf v) then false else x) (g .events n e q)
     ∙ sym (or-none (b == n && isEvent e (kindOf v)) false (isRegistered n e h))
-events-kept m h (event (askEvent b v)) ok s g n e q = g .events n e q
-events-kept m h (event (requestPoll b d)) ok s g n e q =
+events-kept m h o (event (askEvent b v)) ok s g n e q = g .events n e q
+events-kept m h o (event (requestPoll b d)) ok s g n e q =
     with-kept (m .tables .applets) (withPoll (secondsOf d)) (λ x. refl) (λ (x : Applet). getD (x .events) e false) (λ x. refl) b n (is-here (m .tables) b (none-holds m (event (requestPoll b d)) ok .0))
     ∙ g .events n e q
-events-kept m h (entry c) ok s g n e q =
+events-kept m h o (entry c) ok s g n e q =
     entry-kept (λ (x : Applet). getD (x .events) e false) (λ x. refl) m n c ok
     ∙ g .events n e q
-events-kept m h (timer (allocate b)) ok s g n e q = g .events n e q
-events-kept m h (timer (release b k)) ok s g n e q = g .events n e q
-events-kept m h (arrival c) ok s g n e q = g .events n e q
-events-kept m h settled ok s g n e q =
-    ap (λ (x : Applet). getD (x .events) e false) (with-used (m .tables .applets) n)
-    ∙ used-event (applet (m .tables) n) e
-    ∙ rw (g .selectability n, g .events n e q) refl
-events-kept m h (proactive c) ok s g n e q = g .events n e q
-events-kept m h (systemCommand buffer) ok s g n e q = g .events n e q
+events-kept m h o (timer (allocate b)) ok s g n e q = g .events n e q
+events-kept m h o (timer (release b k)) ok s g n e q = g .events n e q
+events-kept m h o (arrival c) ok s g n e q = g .events n e q
+events-kept m h o next ok s g n e q =
+    let k : bySettled (m .round .arrived) ≡ settledOpened h = ap bySettled (o .arrival (is-open m ok)) ∙ by-settled h in
+    turn-seen (m .tables) (s .sound .tables) (m .round) h k n e q
+    ∙ rw (g .events n e q) refl
+events-kept m h o (proactive c) ok s g n e q = g .events n e q
+events-kept m h o (systemCommand buffer) ok s g n e q = g .events n e q
 
 -- Call control. What was b's is nobody's.
 pub forgotten : (o b n : ℕ) → 1 ≤ n → (forget b o == n) ≡ (if b == n then false else o == n)
@@ -197,7 +215,7 @@ clear-control t b n Reserved k = nothing-marked (b == n) false (t .control == n)
 clear-control t b n Unsupported k = nothing-marked (b == n) false (t .control == n)
 
 pub control-kept : Kept (λ t h. (n : ℕ) → 1 ≤ n → (t .control == n) ≡ isRegistered n callControl h)
-unfolding tablesAfter adminTables eventTables entryTables timerTables eventLines lines Every isRegistered usesUp reading
+unfolding tablesAfter adminTables eventTables entryTables timerTables register withRegistration eventLines lines answer Every isRegistered usesUp reading
 control-kept m h (admin (install b r)) ok s g n k = g .control n k
 control-kept m h (admin (delete b)) ok s g n k =
     forgotten (m .tables .control) b n k
@@ -220,7 +238,10 @@ control-kept m h (entry (disableEntry b i)) ok s g n k = g .control n k
 control-kept m h (timer (allocate b)) ok s g n k = g .control n k
 control-kept m h (timer (release b j)) ok s g n k = g .control n k
 control-kept m h (arrival c) ok s g n k = g .control n k
-control-kept m h settled ok s g n k = g .control n k
+control-kept m h next ok s g n k =
+    at-turn (λ t. (t .control == n) ≡ (m .tables .control == n)) (m .tables) (m .round) refl (λ b there. refl)
+    ∙ g .control n k
+    ∙ rw (and-false (in? n (named (m .tables) (m .round)))) refl
 control-kept m h (proactive c) ok s g n k = g .control n k
 control-kept m h (systemCommand buffer) ok s g n k = g .control n k
 
@@ -257,9 +278,7 @@ poll-kept m h (entry c) ok s g n = entry-kept (λ x. x .poll) (λ x. refl) m n c
 poll-kept m h (timer (allocate b)) ok s g n = g .poll n
 poll-kept m h (timer (release b k)) ok s g n = g .poll n
 poll-kept m h (arrival c) ok s g n = g .poll n
-poll-kept m h settled ok s g n =
-    ap (λ (x : Applet). x .poll) (with-used (m .tables .applets) n)
-    ∙ used-kept (λ x. x .poll) (λ b x. refl) (applet (m .tables) n)
-    ∙ g .poll n
+poll-kept m h next ok s g n =
+    at-turn (λ t. applet t n .poll ≡ pollOf n h) (m .tables) (m .round) (g .poll n) (λ b there. registered-kept (λ x. x .poll) (λ e w x. refl) (m .tables) b n _ false there ∙ g .poll n)
 poll-kept m h (proactive c) ok s g n = g .poll n
 poll-kept m h (systemCommand buffer) ok s g n = g .poll n

@@ -15,19 +15,19 @@ use Rattle.rules.specs.Holds.{Row}
 use Rattle.rules.specs.Applets.{applet}
 use Rattle.rules.specs.Rows.{hasIdentifier, itsRow, nextIdentifier, withEntry, withText, withEnabled, withoutRows}
 use Rattle.rules.specs.Desk.{sameRow?}
-use Rattle.rules.specs.Calls.{admin, event, entry, timer, arrival, settled, proactive, systemCommand, install, delete, lock, unlock, newEntry, changeEntry, enableEntry, disableEntry, allocate, release}
+use Rattle.rules.specs.Calls.{ArrivalCall, Answer, admin, event, entry, timer, arrival, next, proactive, systemCommand, install, delete, lock, unlock, newEntry, changeEntry, enableEntry, disableEntry, allocate, release}
 use Rattle.rules.specs.Refusals.{lines, entryLines}
 use Rattle.rules.specs.Step.{adminTables, entryTables, timerTables, tablesAfter, entryAnswer, answer}
 use Rattle.rules.proofs.Reader.{same-true}
 use Rattle.runs.proofs.Accepted.{accepted as none-holds}
 use Rattle.runs.proofs.Filled.{is-its, new-entry, changes-entry}
 use Rattle.runs.proofs.Looked.{has-its-number, its-change}
-use Rattle.history.specs.Histories.{Entry, History, stands}
+use Rattle.history.specs.Histories.{Entry, did, History, stands}
 use Rattle.history.specs.Deeds.{deletes, makes, changes, enables, disables, appletIn, textIn, helpIn}
 use Rattle.history.specs.Named.{rowMade, rowsSince, rowsNamed}
 use Rattle.history.proofs.Open.{reading}
 use Rattle.history.proofs.Agree.{Kept}
-use Rattle.history.proofs.Applets.{event-rows}
+use Rattle.history.proofs.Applets.{event-rows, turn-rows}
 
 -- what an entry leaves of a row that was made before: gone with its applet, or with what the entry gives it
 stays : Entry → Row → Bool
@@ -149,9 +149,18 @@ rows-kept m h (entry (disableEntry b i)) ok s g p =
 rows-kept m h (timer (allocate b)) ok s g p = g .rows p ∙ sym (rows-back _ h p)
 rows-kept m h (timer (release b k)) ok s g p = g .rows p ∙ sym (rows-back _ h p)
 rows-kept m h (arrival c) ok s g p = g .rows p ∙ sym (rows-back _ h p)
-rows-kept m h settled ok s g p = g .rows p ∙ sym (rows-back _ h p)
+rows-kept m h next ok s g p = ap (count p) (turn-rows (m .tables) (m .round)) ∙ g .rows p ∙ sym (rows-back _ h p)
 rows-kept m h (proactive c) ok s g p = g .rows p ∙ sym (rows-back _ h p)
 rows-kept m h (systemCommand buffer) ok s g p = g .rows p ∙ sym (rows-back _ h p)
+
+-- an arrival and a turn leave the rows that the history names
+pub arrival-rows : (c : ArrivalCall) (a : Answer) (h : History) (p : Row → Bool) → count p (rowsNamed (did (arrival c) a ∷ h)) ≡ count p (rowsNamed h)
+unfolding rowsNamed rowsSince stays touched reading
+arrival-rows c a h p = rows-back (did (arrival c) a) h p
+
+pub next-rows : (a : Answer) (h : History) (p : Row → Bool) → count p (rowsNamed (did next a ∷ h)) ≡ count p (rowsNamed h)
+unfolding rowsNamed rowsSince stays touched reading
+next-rows a h p = rows-back (did next a) h p
 
 -- rows that the test for it takes for the same are the same
 marks-alike : (a b : Bool) → Bool·beq a b ≡ true → a ≡ b

@@ -12,7 +12,7 @@ use Rattle.rules.specs.Envelopes.{commandOf, badCommand, systemType}
 use Rattle.rules.specs.Desk.{withOutstanding}
 use Rattle.rules.specs.Calls.{Outcome, accepted, proactive, send, response}
 use Rattle.rules.specs.Refusals.{firstHolding, absent, foreignTimer, proactiveLines, lines, refusal}
-use Rattle.rules.specs.Step.{proactiveDesk, deskAfter, tablesAfter, changed, answer, written, outcome, step}
+use Rattle.rules.specs.Step.{proactiveDesk, deskAfter, tablesAfter, roundAfter, changed, answer, written, outcome, step}
 use Rattle.rules.proofs.DueMarks.{marked-same}
 use Rattle.history.proofs.Answered.{passes, gives}
 
@@ -25,19 +25,19 @@ send-gets-17 m n bytes type is here none =
 
 -- accepted, with the card as it was but for what is outstanding
 abbrev pub leaving : Bool → Model → Outcome
-leaving b m = record { after = record { tables = m .tables; desk = withOutstanding b (m .desk) }; answer = accepted; buffer = [] }
+leaving b m = record { after = record { tables = m .tables; desk = withOutstanding b (m .desk); round = m .round }; answer = accepted; buffer = [] }
 
 -- SEND makes a command outstanding ..
 pub send-makes-outstanding : (m : Model) (n : ℕ) (bytes : List ℕ) → step m (proactive (send n bytes)) .answer .refusal ≡ 0
     → step m (proactive (send n bytes)) ≡ leaving true m
-unfolding step outcome changed tablesAfter deskAfter proactiveDesk answer written
+unfolding step outcome changed tablesAfter roundAfter deskAfter proactiveDesk answer written
 send-makes-outstanding m n bytes ok =
     ap (λ (k : ℕ). outcome k m (proactive (send n bytes))) (passes m (proactive (send n bytes)) ok)
-    ∙ ap (λ (d : Desk). record { after = record { tables = m .tables; desk = d }; answer = accepted; buffer = [] }) (marked-same (m .tables) (withOutstanding true (m .desk)))
+    ∙ ap (λ (d : Desk). record { after = record { tables = m .tables; desk = d; round = m .round }; answer = accepted; buffer = [] }) (marked-same (m .tables) (withOutstanding true (m .desk)))
 
 -- .. and RESPONSE ends it.
 pub response-ends-it : (m : Model) → step m (proactive response) .answer .refusal ≡ 0 → step m (proactive response) ≡ leaving false m
-unfolding step outcome changed tablesAfter deskAfter proactiveDesk answer written
+unfolding step outcome changed tablesAfter roundAfter deskAfter proactiveDesk answer written
 response-ends-it m ok =
     ap (λ (k : ℕ). outcome k m (proactive response)) (passes m (proactive response) ok)
-    ∙ ap (λ (d : Desk). record { after = record { tables = m .tables; desk = d }; answer = accepted; buffer = [] }) (marked-same (m .tables) (withOutstanding false (m .desk)))
+    ∙ ap (λ (d : Desk). record { after = record { tables = m .tables; desk = d; round = m .round }; answer = accepted; buffer = [] }) (marked-same (m .tables) (withOutstanding false (m .desk)))

@@ -15,19 +15,19 @@ use Rattle.lists.proofs.Smallest.{smallest-by-key}
 use Rattle.lists.proofs.Times.{count-all}
 use Rattle.lists.proofs.Walk.{some-first}
 use Rattle.rules.specs.declared.Envelope.the-variants.{Download}
-use Rattle.rules.specs.Holds.{Applet, Row, Tables}
+use Rattle.rules.specs.Holds.{Applet, Row, Tables, event, status}
 use Rattle.rules.specs.Events.{codes, firstDownload, kindOfCode, named}
 use Rattle.rules.specs.Applets.{hasNumber, nobody, present, applet, registered, polls, inOrder}
-use Rattle.rules.specs.Arrivals.{event, status, arrivalOf, download, wants, called}
+use Rattle.rules.specs.Arrivals.{arrivalOf, download, wants}
 use Rattle.rules.specs.Commands.{selectable, shownMenu, listened, shownFrom, shownEvents, interval}
 use Rattle.rules.proofs.Listed.{count-inOrder}
 use Rattle.runs.specs.Sound.{SoundTables}
 use Rattle.history.specs.Histories.{History}
 use Rattle.history.specs.Named.{isSelectable, pollOf, oneToEight, rowsNamed}
-use Rattle.history.specs.Called.{isNamed, isDue}
+use Rattle.history.specs.Called.{isNamed, isCallable}
 use Rattle.history.specs.Handed.{isShown, codesNamed, intervalNamed}
 use Rattle.history.proofs.Agree.{numberOf, AgreeTables}
-use Rattle.history.proofs.Calling.{calls, due-there}
+use Rattle.history.proofs.Calling.{callable, callable-in-order, callable-there}
 use Rattle.history.proofs.Eight.{among-eight, length-due}
 
 -- where as many pass, one passes or none does
@@ -66,18 +66,18 @@ module _ (t : Tables) (h : History) (s : SoundTables t) (g : AgreeTables t h) (f
   abbrev Wanted : ℕ → Applet → Bool
   Wanted e x = x .selectable && registered t e x
 
-  listened-named : (e : ℕ) → listened t e ≡ some? (isDue h (event e)) oneToEight
-  unfolding listened called wants
+  listened-named : (e : ℕ) → listened t e ≡ some? (isCallable h (event e)) oneToEight
+  unfolding listened callable wants
   listened-named e =
-      some-counted (Wanted e) (t .applets) (isDue h (event e)) oneToEight
+      some-counted (Wanted e) (t .applets) (isCallable h (event e)) oneToEight
       (count-is (Wanted e) (t .applets)
       ∙ sym (count-all (keep (Wanted e) (t .applets)))
       ∙ sym (count-inOrder (λ x. true) (keep (Wanted e) (t .applets)))
       ∙ count-all (inOrder (keep (Wanted e) (t .applets)))
       ∙ sym (map-length numberOf (inOrder (keep (Wanted e) (t .applets))))
-      ∙ length-due (called t (event e)) (isDue h (event e)) (calls t h s g (event e) .once) (λ n q. few n (due-there t h s g (event e) n q)))
+      ∙ length-due (callable t (event e)) (isCallable h (event e)) (callable-in-order t h s g (event e) .once) (λ n q. few n (callable-there t h s g (event e) n q)))
 
-  from-named : (e : ℕ) (l : List ℕ) → Placed e l → shownFrom t e l ≡ keep (λ code. some? (isDue h (arrivalOf (Download code))) oneToEight) l
+  from-named : (e : ℕ) (l : List ℕ) → Placed e l → shownFrom t e l ≡ keep (λ code. some? (isCallable h (arrivalOf (Download code))) oneToEight) l
   unfolding Placed shownFrom keep
   from-named e [] p = refl
   from-named e (c ∷ l) p = rw (p .0, listened-named e, from-named (suc e) l (p .1)) refl
@@ -97,8 +97,8 @@ module _ (t : Tables) (h : History) (s : SoundTables t) (g : AgreeTables t h) (f
   Polled n = applet t n .selectable && polls (applet t n)
 
   pub interval-shown : interval t ≡ intervalNamed h
-  unfolding interval intervalNamed isDue isNamed applet
+  unfolding interval intervalNamed isCallable isNamed applet
   interval-shown =
       smallest-by-key numberOf nobody (t .applets) (s .numbers-apart) oneToEight found-among (λ (x : Applet). x .selectable && polls x) (λ (x : Applet). x .poll) refl
       ∙ ap smallest (map-congr-left {l = keep Polled oneToEight} (λ n q. g .poll n)
-      ∙ ap (map (λ n. pollOf n h)) (keep-alike Polled (isDue h status) oneToEight (λ n. rw (g .selectability n, g .poll n) refl)))
+      ∙ ap (map (λ n. pollOf n h)) (keep-alike Polled (isCallable h status) oneToEight (λ n. rw (g .selectability n, g .poll n) refl)))

@@ -1,16 +1,16 @@
--- Whom a history calls: each selectable applet that it registers, once, in order, and no other.
+-- Whom a history calls: at each next the first, in order, of those whom it registers for what arrived, on arrival and still.
 use Prim.Native.Nat.{ℕ}
 use mathlib.Core.Path.{_≡_}
 use mathlib.Core.Bool.{Bool, true, false, not, _&&_, _||_}
-use mathlib.Core.List.{List}
+use mathlib.Core.List.{List, [], _∷_}
 use Rattle.lists.specs.Tests.{if_then_else_, _==_, _<?_}
-use Rattle.lists.specs.Lists.{some?, times, Ordered}
-use Rattle.rules.specs.Holds.{Row}
-use Rattle.rules.specs.Envelopes.{envelopeOf}
-use Rattle.rules.specs.Arrivals.{Arrival, event, choice, help, expiry, status, nothing, arrivalOf, profileArrival, settledArrival}
-use Rattle.rules.specs.Calls.{Call, admin, event as eventCall, entry, timer, arrival, settled, proactive, systemCommand, envelope, profile, status as statusCall}
-use Rattle.history.specs.Histories.{History}
-use Rattle.history.specs.Named.{isSelectable, priorityOf, isLater, isRegistered, pollOf, ownsTimer, rowsNamed}
+use Rattle.lists.specs.Lists.{some?, every?}
+use Rattle.rules.specs.Holds.{Row, Arrival, event, choice, help, expiry, status, nothing}
+use Rattle.rules.specs.Rounds.{arrivedWith}
+use Rattle.history.specs.Histories.{History, stands}
+use Rattle.history.specs.Deeds.{ofArrival}
+use Rattle.history.specs.Rounds.{opens, findsNobody, leaves}
+use Rattle.history.specs.Named.{isSelectable, priorityOf, isLater, isRegistered, pollOf, ownsTimer, rowsNamed, oneToEight}
 
 -- row i is applet n's and enabled; it also offers help
 unfoldable pub isChosen : (identifier applet : ℕ) → Row → Bool
@@ -29,28 +29,44 @@ isNamed h (expiry k) n = ownsTimer k n h
 isNamed h status n = not (pollOf n h == 0)
 isNamed h nothing n = false
 
--- applet n is to be called: it is selectable, and registered for what arrives
-unfoldable pub isDue : History → Arrival → (applet : ℕ) → Bool
-isDue h a n = isSelectable n h && isNamed h a n
+-- applet n is registered for what arrives, and selectable
+unfoldable pub isCallable : History → Arrival → (applet : ℕ) → Bool
+isCallable h a n = isSelectable n h && isNamed h a n
+
+-- What arrived last; what was done since; and the history at that moment.
+unfoldable pub arrived : History → Arrival
+arrived [] = nothing
+arrived (e ∷ h) = if opens e then ofArrival nothing arrivedWith (e .call) else arrived h
+
+unfoldable pub since : History → History
+since [] = []
+since (e ∷ h) = if opens e then [] else e ∷ since h
+
+unfoldable pub onArrival : History → History
+onArrival [] = []
+onArrival (e ∷ h) = if opens e then h else onArrival h
+
+-- A round is open: something arrived, and no next found nobody since.
+unfoldable pub isOpen : History → Bool
+isOpen h = stands opens findsNobody h
+
+-- Applet n waits for its turn: it was registered on arrival, and neither named nor deleted since.
+unfoldable pub waits : (applet : ℕ) → History → Bool
+waits n h = isNamed (onArrival h) (arrived h) n && not (some? (leaves n) (since h))
+
+-- Applet n is to be named: it is registered still, selectable, and waits.
+unfoldable pub isDue : History → (applet : ℕ) → Bool
+isDue h n = isCallable h (arrived h) n && waits n h
 
 -- Smaller priority number first, and of equal priority the later installed first.
 unfoldable pub isBefore : History → (applet other : ℕ) → Bool
 isBefore h n m = priorityOf n h <? priorityOf m h || priorityOf n h == priorityOf m h && isLater n m h
 
--- THE LIST OF APPLETS that an arrival calls.
-pub record Calls (h : History) (a : Arrival) (l : List ℕ) : Type 0 where
-  pub once : (n : ℕ) → times n l ≡ (if isDue h a n then 1 else 0)
-  pub in-order : Ordered (λ n m. isBefore h n m ≡ true) l
+-- Applet n gets the next turn: a round is open, it is to be named, and it comes before every other that is.
+unfoldable pub getsTurn : (applet : ℕ) → History → Bool
+getsTurn n h = isOpen h && isDue h n && every? (λ m. m == n || not (isDue h m) || isBefore h n m) oneToEight
 
--- What arrives with a call: an envelope says it in its bytes, a profile, a STATUS and a settled moment by themselves; nothing with any other.
-unfoldable pub arrivalIn : Call → Arrival
-arrivalIn (admin c) = nothing
-arrivalIn (eventCall c) = nothing
-arrivalIn (entry c) = nothing
-arrivalIn (timer c) = nothing
-arrivalIn (arrival (envelope bytes)) = arrivalOf (envelopeOf bytes)
-arrivalIn (arrival (profile bytes)) = profileArrival
-arrivalIn (arrival statusCall) = status
-arrivalIn settled = settledArrival
-arrivalIn (proactive c) = nothing
-arrivalIn (systemCommand buffer) = nothing
+-- WHOM A NEXT NAMES: nobody, if nobody is to be named; else the one that comes before every other.
+pub data Names (h : History) : List ℕ → Type 0 where
+  nobody : ((n : ℕ) → isDue h n ≡ false) → Names h []
+  first : (n : ℕ) → isDue h n ≡ true → ((m : ℕ) → isDue h m ≡ true → (m == n) ≡ false → isBefore h n m ≡ true) → Names h (n ∷ [])

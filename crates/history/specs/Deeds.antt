@@ -7,10 +7,10 @@ use Rattle.rules.specs.declared.Kind.{Kind}
 use Rattle.rules.specs.declared.Kind.the-variants.{Event, Issuer, Reserved, Unsupported}
 use Rattle.rules.specs.Events.{kindOf}
 use Rattle.rules.specs.Applets.{secondsOf}
-use Rattle.rules.specs.Calls.{Call, admin, event, entry, timer, arrival, settled, proactive, systemCommand}
+use Rattle.rules.specs.Calls.{Call, admin, event, entry, timer, arrival, next, proactive, systemCommand}
 use Rattle.rules.specs.Calls.{AdminCall, install, delete, lock, unlock, EventCall, setEvent, clearEvent, askEvent, requestPoll}
 use Rattle.rules.specs.Calls.{EntryCall, newEntry, changeEntry, enableEntry, disableEntry, TimerCall, allocate, release}
-use Rattle.rules.specs.Calls.{envelope, profile, status, send, response}
+use Rattle.rules.specs.Calls.{ArrivalCall, envelope, profile, status, settled, send, response}
 use Rattle.history.specs.Histories.{Entry}
 
 -- What is read of a call of one group; the same for every call of another.
@@ -21,7 +21,7 @@ module _ {A : Type 0} (other : A) where
   ofAdmin f (entry c) = other
   ofAdmin f (timer c) = other
   ofAdmin f (arrival c) = other
-  ofAdmin f settled = other
+  ofAdmin f next = other
   ofAdmin f (proactive c) = other
   ofAdmin f (systemCommand buffer) = other
 
@@ -31,7 +31,7 @@ module _ {A : Type 0} (other : A) where
   ofEvent f (entry c) = other
   ofEvent f (timer c) = other
   ofEvent f (arrival c) = other
-  ofEvent f settled = other
+  ofEvent f next = other
   ofEvent f (proactive c) = other
   ofEvent f (systemCommand buffer) = other
 
@@ -41,7 +41,7 @@ module _ {A : Type 0} (other : A) where
   ofEntry f (entry c) = f c
   ofEntry f (timer c) = other
   ofEntry f (arrival c) = other
-  ofEntry f settled = other
+  ofEntry f next = other
   ofEntry f (proactive c) = other
   ofEntry f (systemCommand buffer) = other
 
@@ -51,9 +51,19 @@ module _ {A : Type 0} (other : A) where
   ofTimer f (entry c) = other
   ofTimer f (timer c) = f c
   ofTimer f (arrival c) = other
-  ofTimer f settled = other
+  ofTimer f next = other
   ofTimer f (proactive c) = other
   ofTimer f (systemCommand buffer) = other
+
+  unfoldable pub ofArrival : (ArrivalCall → A) → Call → A
+  ofArrival f (admin c) = other
+  ofArrival f (event c) = other
+  ofArrival f (entry c) = other
+  ofArrival f (timer c) = other
+  ofArrival f (arrival c) = f c
+  ofArrival f next = other
+  ofArrival f (proactive c) = other
+  ofArrival f (systemCommand buffer) = other
 
 -- Applets: applet n is installed, deleted, locked, unlocked.
 unfoldable pub isInstall : (applet : ℕ) → AdminCall → Bool
@@ -226,28 +236,12 @@ textIn e = ofEntry [] entryText (e .call)
 unfoldable pub helpIn : Entry → Bool
 helpIn e = ofEntry false entryHelp (e .call)
 
--- The terminal's side: a moment settles; a profile; a command is given to the terminal (by send, or handed out); its response.
-unfoldable pub isSettled : Call → Bool
-isSettled (admin c) = false
-isSettled (event c) = false
-isSettled (entry c) = false
-isSettled (timer c) = false
-isSettled (arrival c) = false
-isSettled settled = true
-isSettled (proactive c) = false
-isSettled (systemCommand buffer) = false
-
-unfoldable pub isProfile : Call → Bool
-isProfile (admin c) = false
-isProfile (event c) = false
-isProfile (entry c) = false
-isProfile (timer c) = false
-isProfile (arrival (envelope bytes)) = false
-isProfile (arrival (profile bytes)) = true
-isProfile (arrival status) = false
+-- The terminal's side: a profile; a command is given to the terminal (by send, or handed out); its response.
+unfoldable pub isProfile : ArrivalCall → Bool
+isProfile (envelope bytes) = false
+isProfile (profile bytes) = true
+isProfile status = false
 isProfile settled = false
-isProfile (proactive c) = false
-isProfile (systemCommand buffer) = false
 
 -- a system command of length 0 hands out nothing
 unfoldable pub isCommand : (number : ℕ) → Call → Bool
@@ -256,7 +250,7 @@ isCommand number (event c) = false
 isCommand number (entry c) = false
 isCommand number (timer c) = false
 isCommand number (arrival c) = false
-isCommand number settled = false
+isCommand number next = false
 isCommand number (proactive (send n bytes)) = true
 isCommand number (proactive response) = false
 isCommand number (systemCommand buffer) = not (number == 0)
@@ -267,16 +261,13 @@ isResponse (event c) = false
 isResponse (entry c) = false
 isResponse (timer c) = false
 isResponse (arrival c) = false
-isResponse settled = false
+isResponse next = false
 isResponse (proactive (send n bytes)) = false
 isResponse (proactive response) = true
 isResponse (systemCommand buffer) = false
 
-unfoldable pub settles : Entry → Bool
-settles e = isSettled (e .call)
-
 unfoldable pub profiles : Entry → Bool
-profiles e = isProfile (e .call)
+profiles e = ofArrival false isProfile (e .call)
 
 unfoldable pub commands : Entry → Bool
 commands e = isCommand (e .answer .number) (e .call)

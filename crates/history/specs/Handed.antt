@@ -7,10 +7,10 @@ use lib.ListN.{take, drop}
 use Rattle.lists.specs.Tests.{if_then_else_, _==_}
 use Rattle.lists.specs.Lists.{some?, keep, first, same?, smallest}
 use Rattle.rules.specs.declared.Envelope.the-variants.{Download}
-use Rattle.rules.specs.Holds.{Row, document}
+use Rattle.rules.specs.Holds.{Row, document, status}
 use Rattle.rules.specs.Events.{codes}
 use Rattle.rules.specs.Bytes.{byte}
-use Rattle.rules.specs.Arrivals.{status, arrivalOf}
+use Rattle.rules.specs.Arrivals.{arrivalOf}
 use Rattle.rules.specs.Commands.{Menu, menuOf, menuBytes, eventBytes, commandBytes, detailBytes, intervalBytes, offBytes, valueOf, isMenu}
 use Rattle.rules.specs.Calls.{Call, Outcome}
 use Rattle.rules.specs.Step.{step}
@@ -19,7 +19,7 @@ use Rattle.rules.specs.Runs.{cardAfter}
 use Rattle.history.specs.Histories.{Entry, did, History}
 use Rattle.history.specs.Deeds.{profiles}
 use Rattle.history.specs.Named.{isSelectable, pollOf, oneToEight}
-use Rattle.history.specs.Called.{isDue}
+use Rattle.history.specs.Called.{isCallable}
 
 -- The title that a fresh card takes: the one asked for, or the empty one where that is too long.
 abbrev pub titleOf : (title : List ℕ) → List ℕ
@@ -84,13 +84,13 @@ lastPolling l = first isPolling offBytes l
 unfoldable pub isShown : History → Row → Bool
 isShown h r = r .enabled && isSelectable (r .owner) h
 
--- The codes that it wants: those whose download is to call some applet, a selectable one that is registered for it.
+-- The codes that it wants: those for whose download some selectable applet is registered.
 unfoldable pub codesNamed : History → List ℕ
-codesNamed h = keep (λ code. some? (isDue h (arrivalOf (Download code))) oneToEight) codes
+codesNamed h = keep (λ code. some? (isCallable h (arrivalOf (Download code))) oneToEight) codes
 
--- The system interval that it names, in seconds: the smallest request of those whom a STATUS is to call; 0 where there is none.
+-- The system interval that it names, in seconds: the smallest request of a selectable applet; 0 where there is none.
 unfoldable pub intervalNamed : History → ℕ
-intervalNamed h = smallest (map (λ n. pollOf n h) (keep (isDue h status) oneToEight))
+intervalNamed h = smallest (map (λ n. pollOf n h) (keep (isCallable h status) oneToEight))
 
 -- The command for polling that it wants: that interval, or POLLING OFF where there is none.
 unfoldable pub pollingNamed : History → List ℕ

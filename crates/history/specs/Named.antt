@@ -7,9 +7,10 @@ use Rattle.lists.specs.Tests.{if_then_else_, _==_}
 use Rattle.lists.specs.Lists.{some?, first, padded}
 use Rattle.rules.specs.Holds.{Row}
 use Rattle.rules.specs.Events.{callControl, handlerAvailable}
-use Rattle.rules.specs.Calls.{Call, admin, event, entry, timer, arrival, envelope, profile, status, settled, proactive, systemCommand}
+use Rattle.rules.specs.Calls.{ArrivalCall, envelope, profile, status, settled}
 use Rattle.history.specs.Histories.{Entry, History, stands}
-use Rattle.history.specs.Deeds.{installs, deletes, locks, unlocks, priorityIn, sets, clears, requests, secondsIn, gives, releases, makes, changes, enables, disables, appletIn, textIn, helpIn, settles, profiles, commands, responds}
+use Rattle.history.specs.Deeds.{ofArrival, installs, deletes, locks, unlocks, priorityIn, sets, clears, requests, secondsIn, gives, releases, makes, changes, enables, disables, appletIn, textIn, helpIn, profiles, commands, responds}
+use Rattle.history.specs.Rounds.{opens, settles, names}
 
 -- Applet n was installed, and not deleted since.
 unfoldable pub isPresent : (applet : ℕ) → History → Bool
@@ -32,10 +33,14 @@ isLater n m h = stands (installs n) (installs m) h
 unfoldable pub ownsTimer : (timer applet : ℕ) → History → Bool
 ownsTimer k n h = stands (gives k n) (λ e. releases k e || deletes n e) h
 
--- A registration of applet n is used up if it is the one-shot, proactive handler available, and a settled moment finds the
--- applet selectable.
+-- Settled opened the round: the last arrival was a settled moment.
+unfoldable pub settledOpened : History → Bool
+settledOpened h = stands settles (λ e. opens e && not (settles e)) h
+
+-- A registration of applet n is used up if it is the one-shot, proactive handler available, and the applet is named in a round that
+-- settled opened.
 unfoldable pub usesUp : (applet event : ℕ) → Entry → (before : History) → Bool
-usesUp n e x before = settles x && (e == handlerAvailable && isSelectable n before)
+usesUp n e x before = names n x && (e == handlerAvailable && settledOpened before)
 
 -- Applet n is registered for the event: it set the event, and that was neither cleared, deleted nor used up since.
 unfoldable pub isRegistered : (applet event : ℕ) → History → Bool
@@ -105,18 +110,12 @@ unfoldable pub isOutstanding : History → Bool
 isOutstanding h = stands commands (λ e. responds e || profiles e) h
 
 -- The terminal profile: the first 32 bytes of the last accepted one, with zeros behind; zeros before any.
-unfoldable pub profileBytes : Call → List ℕ
-profileBytes (admin c) = []
-profileBytes (event c) = []
-profileBytes (entry c) = []
-profileBytes (timer c) = []
-profileBytes (arrival (envelope bytes)) = []
-profileBytes (arrival (profile bytes)) = bytes
-profileBytes (arrival status) = []
+unfoldable pub profileBytes : ArrivalCall → List ℕ
+profileBytes (envelope bytes) = []
+profileBytes (profile bytes) = bytes
+profileBytes status = []
 profileBytes settled = []
-profileBytes (proactive c) = []
-profileBytes (systemCommand buffer) = []
 
 unfoldable pub profileNamed : History → List ℕ
 profileNamed [] = replicate 32 0
-profileNamed (e ∷ h) = if profiles e then padded 32 0 (take 32 (profileBytes (e .call))) else profileNamed h
+profileNamed (e ∷ h) = if profiles e then padded 32 0 (take 32 (ofArrival [] profileBytes (e .call))) else profileNamed h

@@ -123,6 +123,18 @@ module _ {A : Type 0} (p : A → Bool) where
         go false true h = omega arith
         go false false h = h
 
+    pub count-apart : ((x : A) → p x ≡ true → q x ≡ false) → (l : List A) → count (λ x. p x || q x) l ≡ count p l + count q l
+    unfolding count
+    count-apart e [] = refl
+    count-apart e (x ∷ l) = go (p x) (q x) refl refl (count-apart e l)
+      where
+        go : (s t : Bool) → p x ≡ s → q x ≡ t → count (λ x. p x || q x) l ≡ count p l + count q l
+            → (if s || t then suc (count (λ x. p x || q x) l) else count (λ x. p x || q x) l) ≡ (if s then suc (count p l) else count p l) + (if t then suc (count q l) else count q l)
+        go true true a b h = clashing b (e x a)
+        go true false a b h = omega arith
+        go false true a b h = omega arith
+        go false false a b h = h
+
 -- what is kept is counted no more often
 pub count-kept : {A : Type 0} (p q : A → Bool) (l : List A) → count p (keep q l) ≤ count p l
 count-kept p q l = omega (arith, count-keep p q l, count-within (λ x. q x && p x) p (λ x e. both (q x) (p x) e .1) l)

@@ -107,6 +107,11 @@ unfolding every? Every
 every-passes p [] e = tt
 every-passes p (x ∷ l) e = let h = both (p x) (every? p l) e in (h .0, every-passes p l (h .1))
 
+pub all-pass : {A : Type 0} (p : A → Bool) → ((x : A) → p x ≡ true) → (l : List A) → every? p l ≡ true
+unfolding every?
+all-pass p h [] = refl
+all-pass p h (x ∷ l) = rw (h x) (all-pass p h l)
+
 pub every-fails : {A : Type 0} (p : A → Bool) (l : List A) → some? p l ≡ false → Every (λ x. p x ≡ false) l
 unfolding Every some?
 every-fails p [] h = tt

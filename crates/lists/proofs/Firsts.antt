@@ -2,13 +2,14 @@
 -- Assumes nothing.
 use Prim.Native.Nat.{suc, _<_}
 use native.Mathlib.Omega.{arith}
-use mathlib.Core.Path.{_≡_, refl, ap}
+use mathlib.Core.Path.{_≡_, refl, sym, ap}
 use mathlib.Core.Bool.{Bool, true, false, _||_}
 use mathlib.Core.List.{List, [], _∷_, _++_}
 use lib.ListN.{length, getD}
 use Rattle.lists.specs.Tests.{if_then_else_}
 use Rattle.lists.specs.Lists.{some?, keep, leading, first, change}
 use Rattle.lists.proofs.Decided.{clashing}
+use Rattle.lists.proofs.Truth.{or-true}
 
 module _ {A : Type 0} (p : A → Bool) where
   pub some-append : (l k : List A) → some? p (l ++ k) ≡ (some? p l || some? p k)
@@ -19,6 +20,16 @@ module _ {A : Type 0} (p : A → Bool) where
       go : (b : Bool) → some? p (l ++ k) ≡ (some? p l || some? p k) → (b || some? p (l ++ k)) ≡ (b || some? p l || some? p k)
       go true e = refl
       go false e = e
+
+  pub some-either : (q : A → Bool) (l : List A) → some? (λ x. p x || q x) l ≡ (some? p l || some? q l)
+  unfolding some?
+  some-either q [] = refl
+  some-either q (x ∷ l) = go (p x) (q x) (some-either q l)
+    where
+      go : (a b : Bool) → some? (λ x. p x || q x) l ≡ (some? p l || some? q l) → (a || b || some? (λ x. p x || q x) l) ≡ (a || some? p l || (b || some? q l))
+      go true b e = refl
+      go false true e = sym (or-true (some? p l))
+      go false false e = e
 
   pub first-append : (d : A) (l k : List A) → first p d (l ++ k) ≡ (if some? p l then first p d l else first p d k)
   unfolding some? first
@@ -47,6 +58,15 @@ module _ {A : Type 0} (p : A → Bool) where
       go : (b : Bool) → (b || some? p l) ≡ false → (some? p l ≡ false → first p d l ≡ d) → (if b then x else first p d l) ≡ d
       go true q r = clashing refl q
       go false q r = r q
+
+  pub first-kept : (d : A) (l : List A) → first p d l ≡ getD (keep p l) 0 d
+  unfolding first keep
+  first-kept d [] = refl
+  first-kept d (x ∷ l) = go (p x) (first-kept d l)
+    where
+      go : (b : Bool) → first p d l ≡ getD (keep p l) 0 d → (if b then x else first p d l) ≡ getD (if b then x ∷ keep p l else keep p l) 0 d
+      go true e = refl
+      go false e = e
 
   -- what was not kept passes nowhere
   pub some-kept : (q : A → Bool) → ((x : A) → q x ≡ false → p x ≡ false) → (l : List A) → some? p (keep q l) ≡ some? p l

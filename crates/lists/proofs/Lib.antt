@@ -33,3 +33,4 @@ pub mod Among
 pub mod Smallest
 pub mod Least
 pub mod Signed
+pub mod Chosen

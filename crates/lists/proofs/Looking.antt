@@ -6,11 +6,11 @@ use native.Mathlib.Numerals.{add-one}
 use mathlib.Core.Path.{_≡_, refl, sym, ap, _∙_}
 use mathlib.Core.List.{List, [], _∷_, map}
 use mathlib.Core.Bool.{Bool, true, false, _&&_}
-use lib.ListN.{length, take, drop, getD, drop-of-length-le}
+use lib.ListN.{length, take, drop, getD, length-take, drop-of-length-le, List·getD-eq-default}
 use lib.Seq.{drop-cons, getD-take, length-take-le}
 use Rattle.lists.specs.Tests.{if_then_else_}
 use Rattle.lists.specs.Lists.{some?, alike?, indexOf, first}
-use Rattle.lists.proofs.Search.{Sought, index-none}
+use Rattle.lists.proofs.Search.{Sought, index-none, first-is}
 
 -- what stands behind the first i of the first n elements of an array
 left-at : {A : Type 0} (row : List A) (n : ℕ) → n ≤ length row → (i : ℕ) (d : A) → i < n → drop i (take n row) ≡ getD row i d ∷ drop (i + 1) (take n row)
@@ -27,6 +27,15 @@ module _ {A : Type 0} (p : A → Bool) where
   -- a search that has come to the end
   pub sought-end : (row : List A) (n i : ℕ) → n ≤ length row → n ≤ i → Sought p row n i → indexOf p (take n row) ≡ i
   sought-end row n i long h o = o .left ∙ index-none p (take n row) i (rw (length-take-le n row long) h)
+
+  -- what a search has found at an index, or past the end
+  pub found-first : (row : List A) (n i : ℕ) (d : A) → i < n → indexOf p (take n row) ≡ i → getD row i d ≡ first p d (take n row)
+  found-first row n i d h e = sym (getD-take n row i d h) ∙ ap (λ (k : ℕ). getD (take n row) k d) (sym e) ∙ sym (first-is p (take n row) d)
+
+  pub found-none : (row : List A) (n i : ℕ) (d : A) → n ≤ i → indexOf p (take n row) ≡ i → d ≡ first p d (take n row)
+  found-none row n i d h e =
+      let past : length (take n row) ≤ i = omega (arith, length-take n row) in
+      sym (first-is p (take n row) d ∙ ap (λ (k : ℕ). getD (take n row) k d) e ∙ List·getD-eq-default (take n row) d past)
 
   -- a loop that looks for one that passes among the first n of an array, and has passed i: what is left decides
   pub record Looking (row : List A) (n i : ℕ) : Type 0 where

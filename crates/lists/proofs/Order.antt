@@ -94,7 +94,7 @@ module _ {A B : Type 0} (g : A → B) where
   ordered-from R (x ∷ l) o = (every-from (R (g x)) l (o .0), ordered-from R l (o .1))
 
 -- what holds of each holds of a number that is there
-each-there : (P : ℕ → Type 0) (n : ℕ) (l : List ℕ) → Every P l → 1 ≤ times n l → P n
+pub each-there : (P : ℕ → Type 0) (n : ℕ) (l : List ℕ) → Every P l → 1 ≤ times n l → P n
 unfolding Every times count
 each-there P n [] e h = absurd (omega arith)
 each-there P n (m ∷ l) e h = go (m == n) refl h (λ r. each-there P n l (e .1) r)

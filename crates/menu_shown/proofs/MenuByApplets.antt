@@ -9,8 +9,7 @@ use borrow.Author.Tests.{eq-eqb, ne-eqb, eqb-true, eqb-false}
 use Rattle.lists.specs.Tests.{if_then_else_, _==_}
 use Rattle.lists.specs.Lists.{some?, keep, change, count}
 use Rattle.lists.proofs.Truth.{and-false, or-false, or-true}
-use Rattle.lists.proofs.Mapped.{map-some}
-use Rattle.lists.proofs.Walk.{some-first, some-alike}
+use Rattle.lists.proofs.Walk.{some-first}
 use Rattle.lists.proofs.Counts.{count-change}
 use Rattle.lists.proofs.Firsts.{first-passes, some-append, some-kept}
 use Rattle.lists.proofs.Alike.{keep-alike}
@@ -19,8 +18,8 @@ use Rattle.rules.specs.declared.Request.{Request}
 use Rattle.rules.specs.declared.Kind.{Kind}
 use Rattle.rules.specs.declared.Kind.the-variants.{Event, Issuer, Reserved, Unsupported}
 use Rattle.rules.specs.Holds.{Applet, Row, Tables, withApplets, withSelectable, withEvent, withControl, withOneMore, withPoll}
-use Rattle.rules.specs.Events.{callControl, handlerAvailable}
-use Rattle.rules.specs.Applets.{hasNumber, present, applet, nobody, newcomer, forget, calledWhenSettled, usedUp, register, withRegistration}
+use Rattle.rules.specs.Events.{callControl}
+use Rattle.rules.specs.Applets.{hasNumber, present, applet, nobody, newcomer, forget, register, withRegistration}
 use Rattle.rules.specs.Rows.{withoutRows, withEntry, place, nextPair, nextIdentifier}
 use Rattle.rules.specs.Commands.{selectable, shownMenu}
 use Rattle.rules.specs.Calls.{install, delete, newEntry}
@@ -168,14 +167,6 @@ controlled : (t : Tables) (c o : ℕ) → selectable (withControl t c) o ≡ sel
 unfolding selectable
 controlled t c o = refl
 
-used-alike : (t : Tables) (o : ℕ) → selectable (withApplets t (map usedUp (t .applets))) o ≡ selectable t o
-unfolding selectable usedUp
-used-alike t o = sym (map-some usedUp _ (t .applets)) ∙ some-alike _ _ (t .applets) (λ x. go x (calledWhenSettled x))
-  where
-    go : (x : Applet) (b : Bool) → ((if b then withEvent handlerAvailable false x else x) .number == o && (if b then withEvent handlerAvailable false x else x) .selectable) ≡ (x .number == o && x .selectable)
-    go x true = refl
-    go x false = refl
-
 joined : (t : Tables) (n : ℕ) (r : Request) (o : ℕ) → selectable (adminTables t (install n r)) o ≡ (if o == n then true else selectable t o)
 unfolding selectable adminTables newcomer some?
 joined t n r o =
@@ -218,7 +209,3 @@ register-menu t n Unsupported b = kept-menu t t refl (λ o. refl)
 -- A REQUEST FOR POLLING
 pub request-menu : (t : Tables) (n s : ℕ) → menuChanges t (withApplets t (change (hasNumber n) (withPoll s) (t .applets))) ≡ false
 request-menu t n s = kept-menu t _ refl (changed-alike t _ n (withPoll s) (λ x. refl) (λ x. refl) refl)
-
--- SETTLED
-pub settled-menu : (t : Tables) → menuChanges t (withApplets t (map usedUp (t .applets))) ≡ false
-settled-menu t = kept-menu t (withApplets t (map usedUp (t .applets))) refl (used-alike t)

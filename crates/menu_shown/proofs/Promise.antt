@@ -11,9 +11,9 @@ use Rattle.lists.specs.Lists.{some?, count}
 use Rattle.lists.proofs.Counts.{count-within}
 use Rattle.lists.proofs.Truth.{and-true, and-swap, and-assoc, and-left, or-true, or-false}
 use Rattle.lists.proofs.Walk.{some-first, some-alike}
-use Rattle.rules.specs.Holds.{Applet, Row, Tables}
+use Rattle.rules.specs.Holds.{Applet, Row, Tables, choice, help}
 use Rattle.rules.specs.Rows.{hasIdentifier}
-use Rattle.rules.specs.Arrivals.{wants, choice, help}
+use Rattle.rules.specs.Arrivals.{wants}
 use Rattle.rules.specs.Held.{noRow}
 use Rattle.menu.specs.Table.{IdentifiersApart}
 use Rattle.menu_shown.specs.Chosen.{isChosen, chosenOwner}

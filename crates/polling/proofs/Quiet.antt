@@ -1,4 +1,4 @@
--- Calls that leave the system interval: timers, rows, an install, a new entry, set and clear event, and a settled moment.
+-- Calls that leave the system interval: timers, rows, an install, a new entry, and any change of a registration.
 -- Assumes nothing.
 use Prim.Native.Nat.{ℕ}
 use mathlib.Core.Path.{_≡_, refl, sym, ap, _∙_}
@@ -8,7 +8,7 @@ use borrow.Author.Tests.{eq-eqb}
 use Rattle.lists.specs.Tests.{if_then_else_, _==_}
 use Rattle.lists.specs.Lists.{keep, change, smallest}
 use Rattle.lists.proofs.Keep.{keep-snoc}
-use Rattle.lists.proofs.Keyed.{keys-map, keys-change}
+use Rattle.lists.proofs.Keyed.{keys-change}
 use Rattle.lists.proofs.Least.{leastOf, kept-given}
 use Rattle.lists.proofs.Mapped.{map-append}
 use Rattle.rules.specs.declared.Request.{Request}
@@ -16,10 +16,9 @@ use Rattle.rules.specs.declared.Kind.{Kind}
 use Rattle.rules.specs.declared.Kind.the-variants.{Event, Issuer, Reserved, Unsupported}
 use Rattle.rules.specs.Holds.{Applet, Row, Tables, withApplets, withRows, withControl, withTimers, withEvent, withOneMore}
 use Rattle.rules.specs.Events.{callControl}
-use Rattle.rules.specs.Applets.{hasNumber, nobody, newcomer, forget, register, withRegistration, usedUp}
+use Rattle.rules.specs.Applets.{hasNumber, nobody, newcomer, forget, register, withRegistration}
 use Rattle.rules.specs.Commands.{interval}
 use Rattle.rules.specs.Desk.{intervalChanges}
-use Rattle.applets.proofs.Settled.{used-kept}
 
 -- what counts of an applet
 abbrev request : Applet → ℕ
@@ -69,6 +68,3 @@ module _ (t : Tables) where
   register-interval n Issuer b = kept-interval t t refl
   register-interval n Reserved b = kept-interval t t refl
   register-interval n Unsupported b = kept-interval t t refl
-
-  pub settled-interval : intervalChanges t (withApplets t (map usedUp (t .applets))) ≡ false
-  settled-interval = kept-interval t (withApplets t (map usedUp (t .applets))) (ap leastOf (keys-map request nobody usedUp (used-kept request (λ x. refl)) (t .applets)))

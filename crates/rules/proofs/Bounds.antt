@@ -7,12 +7,13 @@ use mathlib.Core.List.{List, [], _∷_}
 use Rattle.lists.specs.Tests.{if_then_else_, _==_}
 use Rattle.rules.specs.declared.Kind.{Kind}
 use Rattle.rules.specs.declared.Kind.the-variants.{Event, Issuer, Reserved, Unsupported}
-use Rattle.rules.specs.Holds.{Bounds, Tables, Model}
+use Rattle.rules.specs.Holds.{Bounds, Tables, Arrival, Model}
 use Rattle.rules.specs.Events.{callControl, kindOf}
 use Rattle.rules.specs.Applets.{register, withRegistration}
-use Rattle.rules.specs.Calls.{Call, admin, event, entry, timer, arrival, settled, proactive, systemCommand}
+use Rattle.rules.specs.Calls.{Call, admin, event, entry, timer, arrival, next, proactive, systemCommand}
 use Rattle.rules.specs.Calls.{install, delete, lock, unlock, setEvent, clearEvent, askEvent, requestPoll, newEntry, changeEntry, enableEntry, disableEntry, allocate, release}
 use Rattle.rules.specs.Refusals.{refusal}
+use Rattle.rules.specs.Rounds.{bySettled, usedUp}
 use Rattle.rules.specs.Step.{adminTables, eventTables, entryTables, timerTables, tablesAfter, changed, outcome, step}
 use Rattle.rules.specs.Beside.{freshBy, freshCard}
 use Rattle.rules.specs.Runs.{cardAfter}
@@ -28,30 +29,35 @@ register-keeps t n Issuer b = refl
 register-keeps t n Reserved b = refl
 register-keeps t n Unsupported b = refl
 
-tables-keep : (t : Tables) (c : Call) → tablesAfter t c .bounds ≡ t .bounds
+used-keeps : (a : Arrival) (l : List ℕ) (t : Tables) → usedUp a l t .bounds ≡ t .bounds
+unfolding usedUp withRegistration
+used-keeps a [] t = refl
+used-keeps a (n ∷ l) t = either (bySettled a) _ _ refl refl
+
+tables-keep : (m : Model) (c : Call) → tablesAfter m c .bounds ≡ m .tables .bounds
 unfolding tablesAfter adminTables eventTables entryTables timerTables
-tables-keep t (admin (install n r)) = refl
-tables-keep t (admin (delete n)) = refl
-tables-keep t (admin (lock n)) = refl
-tables-keep t (admin (unlock n)) = refl
-tables-keep t (event (setEvent n v)) = register-keeps t n (kindOf v) true
-tables-keep t (event (clearEvent n v)) = register-keeps t n (kindOf v) false
-tables-keep t (event (askEvent n v)) = refl
-tables-keep t (event (requestPoll n d)) = refl
-tables-keep t (entry (newEntry n h x)) = refl
-tables-keep t (entry (changeEntry n i h x)) = refl
-tables-keep t (entry (enableEntry n i)) = refl
-tables-keep t (entry (disableEntry n i)) = refl
-tables-keep t (timer (allocate n)) = refl
-tables-keep t (timer (release n k)) = refl
-tables-keep t (arrival c) = refl
-tables-keep t settled = refl
-tables-keep t (proactive c) = refl
-tables-keep t (systemCommand buffer) = refl
+tables-keep m (admin (install n r)) = refl
+tables-keep m (admin (delete n)) = refl
+tables-keep m (admin (lock n)) = refl
+tables-keep m (admin (unlock n)) = refl
+tables-keep m (event (setEvent n v)) = register-keeps (m .tables) n (kindOf v) true
+tables-keep m (event (clearEvent n v)) = register-keeps (m .tables) n (kindOf v) false
+tables-keep m (event (askEvent n v)) = refl
+tables-keep m (event (requestPoll n d)) = refl
+tables-keep m (entry (newEntry n h x)) = refl
+tables-keep m (entry (changeEntry n i h x)) = refl
+tables-keep m (entry (enableEntry n i)) = refl
+tables-keep m (entry (disableEntry n i)) = refl
+tables-keep m (timer (allocate n)) = refl
+tables-keep m (timer (release n k)) = refl
+tables-keep m (arrival c) = refl
+tables-keep m next = used-keeps (m .round .arrived) _ (m .tables)
+tables-keep m (proactive c) = refl
+tables-keep m (systemCommand buffer) = refl
 
 outcome-keeps : (n : ℕ) (m : Model) (c : Call) → outcome n m c .after .tables .bounds ≡ m .tables .bounds
 unfolding outcome changed
-outcome-keeps zero m c = tables-keep (m .tables) c
+outcome-keeps zero m c = tables-keep m c
 outcome-keeps (suc n) m c = refl
 
 pub step-keeps : (m : Model) (c : Call) → step m c .after .tables .bounds ≡ m .tables .bounds

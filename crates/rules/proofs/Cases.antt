@@ -1,6 +1,6 @@
--- Document 01's table of proved cases and its easy slips, and those of polling, hold, by computation. Assumes nothing.
+-- Document 01's table of proved cases and its easy slips, and those of polling and rounds, hold, by computation. Assumes nothing.
 use mathlib.Core.Path.{refl}
-use Rattle.rules.specs.Cases.{Cases, Slips, Polled}
+use Rattle.rules.specs.Cases.{Cases, Slips, Polled, Rounds}
 use Rattle.rules.proofs.Compute.{compute}
 
 pub cases : Cases
@@ -73,4 +73,33 @@ polled-cases =
       the-longest = refl;
       interval-bytes = refl;
       off-bytes = refl;
+    }
+
+pub rounds-cases : Rounds
+unfolding compute
+rounds-cases =
+    record {
+      none-open = refl;
+      empty-opens = refl;
+      empty-next = refl;
+      empty-ends = refl;
+      settled-then = refl;
+      last-named = refl;
+      last-deleted = refl;
+      settled-opens = refl;
+      outstanding-first = refl;
+      next-outstanding = refl;
+      locked-waiting = refl;
+      unlocked-late = refl;
+      late = refl;
+      regained = refl;
+      lost = refl;
+      installed-again = refl;
+      enabled-both = refl;
+      disabled-then = refl;
+      disabled-before = refl;
+      replaced = refl;
+      refused-leaves = refl;
+      not-as-it-opens = refl;
+      used-at-its-turn = refl;
     }

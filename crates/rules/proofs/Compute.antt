@@ -13,6 +13,7 @@ use Rattle.rules.specs.Arrivals as arrivals′
 use Rattle.rules.specs.Commands as commands′
 use Rattle.rules.specs.Desk as desk′
 use Rattle.rules.specs.Refusals as refusals′
+use Rattle.rules.specs.Rounds as rounds′
 use Rattle.rules.specs.Step as step′
 use Rattle.rules.specs.Beside as beside′
 use Rattle.rules.specs.Runs as runs′
@@ -40,7 +41,7 @@ unfolding envelopes′.isSized envelopes′.onlyByte envelopes′.oneByte envelo
 openEnvelopes = tt
 
 unfoldable pub openApplets : Unit {0}
-unfolding applets′.isNumber applets′.present applets′.applet applets′.lookedAt applets′.outOfRange applets′.tooMany applets′.requested applets′.clash applets′.newcomer applets′.registered applets′.isRegistered applets′.ownedByAnother applets′.withRegistration applets′.register applets′.badDuration applets′.secondsOf applets′.usedUp applets′.inOrder
+unfolding applets′.isNumber applets′.present applets′.applet applets′.lookedAt applets′.outOfRange applets′.tooMany applets′.requested applets′.clash applets′.newcomer applets′.registered applets′.isRegistered applets′.ownedByAnother applets′.withRegistration applets′.register applets′.badDuration applets′.secondsOf applets′.inOrder
 openApplets = tt
 
 unfoldable pub openRows : Unit {0}
@@ -52,7 +53,7 @@ unfolding timers′.isOwner timers′.lowestFree timers′.atLimit timers′.non
 openTimers = tt
 
 unfoldable pub openArrivals : Unit {0}
-unfolding arrivals′.download arrivals′.arrivalOf arrivals′.wants arrivals′.called arrivals′.responds
+unfolding arrivals′.download arrivals′.arrivalOf arrivals′.wants arrivals′.responds
 openArrivals = tt
 
 unfoldable pub openCommands : Unit {0}
@@ -67,8 +68,12 @@ unfoldable pub openRefusals : Unit {0}
 unfolding refusals′.firstHolding refusals′.absent refusals′.foreignTimer refusals′.adminLines refusals′.eventLines refusals′.entryLines refusals′.timerLines refusals′.arrivalLines refusals′.proactiveLines refusals′.lines refusals′.refusal
 openRefusals = tt
 
+unfoldable pub openRounds : Unit {0}
+unfolding rounds′.arrivedWith rounds′.opened rounds′.turns rounds′.named rounds′.roundWith rounds′.bySettled rounds′.usedUp
+openRounds = tt
+
 unfoldable pub openStep : Unit {0}
-unfolding step′.adminTables step′.eventTables step′.entryTables step′.timerTables step′.tablesAfter step′.arrivalDesk step′.proactiveDesk step′.deskAfter step′.changed step′.eventAnswer step′.entryAnswer step′.timerAnswer step′.arrivalAnswer step′.answer step′.lent step′.front step′.written step′.outcome step′.step
+unfolding step′.adminTables step′.eventTables step′.entryTables step′.timerTables step′.tablesAfter step′.adminRound step′.roundAfter step′.arrivalDesk step′.proactiveDesk step′.deskAfter step′.changed step′.eventAnswer step′.entryAnswer step′.timerAnswer step′.arrivalAnswer step′.answer step′.lent step′.front step′.written step′.outcome step′.step
 openStep = tt
 
 unfoldable pub openBeside : Unit {0}
@@ -84,9 +89,9 @@ unfolding floor′.letters floor′.signed floor′.requestOf floor′.orderBy f
 openFloor = tt
 
 unfoldable pub openHeld : Unit {0}
-unfolding held′.viewRow held′.storedRow held′.viewRows held′.storedRows held′.viewDesk held′.storedDesk held′.storedItem held′.storedMenu held′.storedAnswer
+unfolding held′.viewRow held′.storedRow held′.viewRows held′.storedRows held′.viewDesk held′.storedDesk held′.viewArrival held′.storedArrival held′.storedItem held′.storedMenu held′.storedAnswer
 openHeld = tt
 
 unfoldable pub compute : Unit {0}
-unfolding openLists openText openEvents openBytes openEnvelopes openApplets openRows openTimers openArrivals openCommands openDesk openRefusals openStep openBeside openRuns openFloor openHeld
+unfolding openLists openText openEvents openBytes openEnvelopes openApplets openRows openTimers openArrivals openCommands openDesk openRefusals openRounds openStep openBeside openRuns openFloor openHeld
 compute = tt

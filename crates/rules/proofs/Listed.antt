@@ -8,12 +8,13 @@ use mathlib.Core.List.{List, [], _∷_}
 use lib.ListN.{length}
 use borrow.Author.Tests.{eqb-true, eqb-false, ltb-false, leb-true, le-leb}
 use Rattle.lists.specs.Tests.{if_then_else_, _==_, _<?_, _≤?_}
-use Rattle.lists.specs.Lists.{some?, every?, count, first}
+use Rattle.lists.specs.Lists.{some?, every?, Every, count, first}
 use Rattle.lists.specs.Tables.{table}
 use Rattle.lists.proofs.Decided.{clashing}
 use Rattle.lists.proofs.Counts.{count-within, count-length}
 use Rattle.lists.proofs.Every.{rises?}
 use Rattle.lists.proofs.Times.{count-insertBefore}
+use Rattle.lists.proofs.Order.{every-insert}
 use Rattle.rules.specs.Holds.{Applet, Row}
 use Rattle.rules.specs.Events.{codes}
 use Rattle.rules.specs.Applets.{inOrder}
@@ -158,6 +159,12 @@ pub count-inOrder : (p : Applet → Bool) (l : List Applet) → count p (inOrder
 unfolding inOrder count
 count-inOrder p [] = refl
 count-inOrder p (x ∷ l) = count-insertBefore p _ x (inOrder l) ∙ ap (λ (n : ℕ). if p x then suc n else n) (count-inOrder p l)
+
+-- what holds of each holds of each in order
+pub every-inOrder : (P : Applet → Type 0) (l : List Applet) → Every P l → Every P (inOrder l)
+unfolding inOrder Every
+every-inOrder P [] e = tt
+every-inOrder P (x ∷ l) e = every-insert P _ x (inOrder l) (e .0) (every-inOrder P l (e .1))
 
 pub codes-rise : rises? codes ≡ true
 unfolding rises? codes every?

@@ -1,5 +1,5 @@
 -- Applets: the look-up by number, what an install asks for, registrations, requests for polling, and the order in which applets are called.
-use Prim.Native.Nat.{ℕ, _+_}
+use Prim.Native.Nat.{ℕ, suc, _+_}
 use mathlib.Core.Bool.{Bool, true, false, not, _&&_, _||_}
 use mathlib.Core.List.{List, [], _∷_, map}
 use lib.ListN.{length, take, getD, replicate}
@@ -7,17 +7,22 @@ use lib.IntN.{ℤ, pos, negsuc}
 use lib.Signed.{ltZ}
 use Rattle.lists.specs.Tests.{if_then_else_, _==_, _<?_, _≤?_}
 use Rattle.lists.specs.Lists.{some?, keep, first, change, insertBefore, sum, gather, repeats?}
+use Rattle.lists.specs.Tables.{table}
 use Rattle.rules.specs.declared.Pair.{Pair}
 use Rattle.rules.specs.declared.Request.{Request}
 use Rattle.rules.specs.declared.Kind.{Kind}
 use Rattle.rules.specs.declared.Kind.the-variants.{Event, Issuer, Reserved, Unsupported}
 use Rattle.rules.specs.Holds.{Applet, Bounds, Tables, withApplets, withControl, withEvent}
-use Rattle.rules.specs.Events.{minus, supported, callControl, handlerAvailable}
+use Rattle.rules.specs.Events.{minus, supported, callControl}
 
 -- The look-up.
 -- an applet number: 1 to 8
 unfoldable pub isNumber : Bounds → (number : ℕ) → Bool
 isNumber b n = 1 ≤? n && n ≤? b .applets
+
+-- all of them, ascending
+abbrev pub numbers : Bounds → List ℕ
+numbers b = table (b .applets) suc
 
 -- the applet has this number
 abbrev pub hasNumber : (number : ℕ) → Applet → Bool
@@ -139,14 +144,6 @@ secondsOf (negsuc n) = 0
 -- the applet requests an interval
 abbrev pub polls : Applet → Bool
 polls x = not (x .poll == 0)
-
--- a settled moment calls the applet: it is registered to proactive handler available, and selectable
-abbrev pub calledWhenSettled : Applet → Bool
-calledWhenSettled x = getD (x .events) handlerAvailable false && x .selectable
-
--- what a settled moment leaves of an applet: just those that it calls are unregistered
-unfoldable pub usedUp : Applet → Applet
-usedUp x = if calledWhenSettled x then withEvent handlerAvailable false x else x
 
 -- The order of call: smaller priority number first, and of equal priority the later installed first. The list is in order of
 -- installation, so its first is the oldest: it stands before the first of the others that has a larger number.

@@ -28,7 +28,7 @@ pub data TimerCall : Type 0 where
 
 pub data ArrivalCall : Type 0 where
   envelope profile : (bytes : List ℕ) → ArrivalCall
-  status : ArrivalCall
+  status settled : ArrivalCall
 
 pub data ProactiveCall : Type 0 where
   send : (applet : ℕ) (bytes : List ℕ) → ProactiveCall
@@ -40,12 +40,12 @@ pub data Call : Type 0 where
   entry : EntryCall → Call
   timer : TimerCall → Call
   arrival : ArrivalCall → Call
-  settled : Call
+  next : Call
   proactive : ProactiveCall → Call
   systemCommand : (buffer : List ℕ) → Call
 
 -- An answer: the refusal's number (0: accepted), a number (an identifier, a timer, or the length of a command), a yes or no,
--- the list of applets called, and the marks.
+-- the list of the applet called, of one or none, and the marks.
 pub record Answer : Type 0 where
   pub refusal : ℕ
   pub number : ℕ
@@ -77,6 +77,9 @@ numbered n = plainly 0 n false
 abbrev pub saying : Bool → Answer
 saying b = plainly 0 0 b
 
--- accepted, with those called and the marks
-abbrev pub calling : List ℕ → Marks → Answer
-calling l marks = record { refusal = 0; number = 0; says = false; called = l; marks = marks }
+-- accepted, with the marks; with the one called
+abbrev pub marking : Marks → Answer
+marking marks = record { refusal = 0; number = 0; says = false; called = []; marks = marks }
+
+abbrev pub calling : List ℕ → Answer
+calling l = record { refusal = 0; number = 0; says = false; called = l; marks = noMarks }

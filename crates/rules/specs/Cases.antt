@@ -1,5 +1,5 @@
--- Document 01's table of proved cases and its easy slips, and those of polling (document 02, Ask 1), each about `step` on a card that calls
--- have left; proved in proofs/Cases.antt.
+-- Document 01's table of proved cases and its easy slips, and those of polling and of rounds (document 02, Asks 1 and 2), each about `step` on
+-- a card that calls have left; proved in proofs/Cases.antt.
 use Prim.Native.Nat.{ℕ}
 use mathlib.Core.Path.{_≡_}
 use mathlib.Core.Bool.{true, false}
@@ -14,8 +14,8 @@ use Rattle.rules.specs.Holds.{Row, Model, document, nothingDue}
 use Rattle.rules.specs.Bytes.{lengthAt}
 use Rattle.rules.specs.Events.{minus}
 use Rattle.rules.specs.Commands.{interval, durationBytes, intervalBytes, offBytes}
-use Rattle.rules.specs.Calls.{Call, admin, event, entry, timer, arrival, proactive, systemCommand}
-use Rattle.rules.specs.Calls.{install, delete, lock, unlock, setEvent, requestPoll, newEntry, allocate, release, envelope, profile, status, settled, response}
+use Rattle.rules.specs.Calls.{Call, admin, event, entry, timer, arrival, next, proactive, systemCommand}
+use Rattle.rules.specs.Calls.{install, delete, lock, unlock, setEvent, requestPoll, newEntry, enableEntry, disableEntry, allocate, release, envelope, profile, status, settled, response}
 use Rattle.rules.specs.Step.{step}
 use Rattle.rules.specs.Beside.{bankAllocate}
 use Rattle.rules.specs.Runs.{cardAfter}
@@ -92,12 +92,12 @@ pub record Cases : Type 0 where
   pub text-15 : refusalAfter textTo15 (entryOf 15) ≡ 0
   pub text-16 : refusalAfter textTo15 (entryOf 16) ≡ 12
 
--- the rows' identifiers in menu order, and the applets that the next settled moment calls
+-- the rows' identifiers in menu order, and the applet that a next names
 abbrev pub rowsAfter : List Call → List ℕ
 rowsAfter l = map (λ (r : Row). r .identifier) (leftBy l .tables .rows)
 
-abbrev pub settledAfter : List Call → List ℕ
-settledAfter l = step (leftBy l) settled .answer .called
+abbrev pub nextAfter : List Call → List ℕ
+nextAfter l = step (leftBy l) next .answer .called
 
 -- an applet with rows 1 and 2, locked, and another whose entry asks for position 2
 abbrev pub lockedRows : List Call
@@ -112,7 +112,7 @@ lockedRows =
 
 -- an applet registered for the proactive handler, and locked when the moment settles
 abbrev pub lockedOneShot : List Call
-lockedOneShot = plain 1 0 0 ∷ event (setEvent 1 (pos 123)) ∷ admin (lock 1) ∷ settled ∷ []
+lockedOneShot = plain 1 0 0 ∷ event (setEvent 1 (pos 123)) ∷ admin (lock 1) ∷ arrival settled ∷ []
 
 pub record Slips : Type 0 where
   -- Rows with equal text are two rows.
@@ -120,9 +120,9 @@ pub record Slips : Type 0 where
   -- Locked rows count when positions are counted.
   pub locked-rows-count : rowsAfter lockedRows ≡ 1 ∷ 9 ∷ 2 ∷ []
   -- A locked applet's one-shot stays, fires once it is unlocked, and is used up then.
-  pub locked-not-called : settledAfter lockedOneShot ≡ []
-  pub one-shot-stays : settledAfter (lockedOneShot ++ admin (unlock 1) ∷ []) ≡ 1 ∷ []
-  pub one-shot-used-up : settledAfter (lockedOneShot ++ admin (unlock 1) ∷ settled ∷ []) ≡ []
+  pub locked-not-called : nextAfter lockedOneShot ≡ []
+  pub one-shot-stays : nextAfter (lockedOneShot ++ next ∷ admin (unlock 1) ∷ arrival settled ∷ []) ≡ 1 ∷ []
+  pub one-shot-used-up : nextAfter (lockedOneShot ++ next ∷ admin (unlock 1) ∷ arrival settled ∷ next ∷ next ∷ arrival settled ∷ []) ≡ []
 
 -- a request of applet n
 abbrev pub asking : (n : ℕ) (duration : ℤ) → Call
@@ -134,6 +134,10 @@ three a b c = plain 1 0 0 ∷ plain 2 0 0 ∷ plain 3 0 0 ∷ asking 1 (pos a) �
 
 abbrev pub polled : (one two three : ℕ) → List Call
 polled a b c = three a b c ++ arrival (profile (bytes "FF")) ∷ systemCommand (replicate 256 0) ∷ proactive response ∷ []
+
+-- whom three nexts name
+abbrev pub namedAfter : List Call → List (List ℕ)
+namedAfter l = nextAfter l ∷ nextAfter (l ++ next ∷ []) ∷ nextAfter (l ++ next ∷ next ∷ []) ∷ []
 
 -- what is due after calls; and what of polling is due where nothing else is
 abbrev pub dueBy : List Call → Due
@@ -157,8 +161,8 @@ pub record Polled : Type 0 where
   pub none-not-smallest : interval (leftBy (three 20 0 300) .tables) ≡ 20
   pub choice-is-none : interval (leftBy (three 20 0 300 ++ asking 1 (minus 1) ∷ []) .tables) ≡ 300
   -- A STATUS calls those whose request is not none, the later installed first, and no locked one.
-  pub status-calls : step (leftBy (three 20 0 300)) (arrival status) .answer .called ≡ 3 ∷ 1 ∷ []
-  pub status-locked : step (leftBy (three 20 0 300 ++ admin (lock 3) ∷ [])) (arrival status) .answer .called ≡ 1 ∷ []
+  pub status-calls : namedAfter (three 20 0 300 ++ arrival status ∷ []) ≡ (3 ∷ []) ∷ (1 ∷ []) ∷ [] ∷ []
+  pub status-locked : namedAfter (three 20 0 300 ++ admin (lock 3) ∷ arrival status ∷ []) ≡ (1 ∷ []) ∷ [] ∷ [] ∷ []
   -- Once handed out, nothing is due. Lock of the one with the smallest request marks POLL INTERVAL, of another or of one that shares it
   -- nothing, of the only one POLLING OFF; unlock and delete mark too.
   pub handed-out : dueBy (polled 20 0 300) ≡ nothingDue
@@ -185,3 +189,56 @@ pub record Polled : Type 0 where
   -- The commands.
   pub interval-bytes : intervalBytes 20 ≡ bytes "D0 0D 81 03 01 03 00 82 02 81 82 84 02 01 14"
   pub off-bytes : offBytes ≡ bytes "D0 09 81 03 01 04 00 82 02 81 82"
+
+-- an unrecognized envelope, which nobody is registered for
+abbrev pub forNobody : Call
+forNobody = arrival (envelope (bytes "C1 00"))
+
+-- a STATUS for applets 3 and 1
+abbrev pub statusRound : List Call
+statusRound = three 20 0 300 ++ arrival status ∷ []
+
+-- applet 1 with row 128, and a choice of that row
+abbrev pub oneRow : List Call
+oneRow = plain 1 0 1 ∷ entryOf 6 ∷ []
+
+abbrev pub choosing : Call
+choosing = arrival (envelope (bytes "D3 07 82 02 01 81 90 01 80"))
+
+-- applet 1 with a one-shot and a request for polling
+abbrev pub oneShot : List Call
+oneShot = plain 1 0 0 ∷ event (setEvent 1 (pos 123)) ∷ asking 1 (pos 20) ∷ []
+
+pub record Rounds : Type 0 where
+  -- 21 with no round open. An arrival for which nobody is registered opens one; next finds nobody and ends it.
+  pub none-open : refusalAfter [] next ≡ 21
+  pub empty-opens : refusalAfter (forNobody ∷ []) (arrival settled) ≡ 22
+  pub empty-next : refusalAfter (forNobody ∷ []) next ≡ 0
+  pub empty-ends : refusalAfter (forNobody ∷ next ∷ []) next ≡ 21
+  pub settled-then : refusalAfter (forNobody ∷ next ∷ []) (arrival settled) ≡ 0
+  -- The round goes on after its last name, and after the delete of the last one left; settled opens one itself.
+  pub last-named : refusalAfter (statusRound ++ next ∷ next ∷ []) (arrival settled) ≡ 22
+  pub last-deleted : refusalAfter (oneShot ++ arrival status ∷ admin (delete 1) ∷ []) (arrival settled) ≡ 22
+  pub settled-opens : refusalAfter (arrival settled ∷ []) (arrival settled) ≡ 22
+  -- 16 before 22; next with a command outstanding.
+  pub outstanding-first : refusalAfter (three 20 0 0 ++ arrival (profile (bytes "FF")) ∷ systemCommand (replicate 256 0) ∷ []) (arrival settled) ≡ 16
+  pub next-outstanding : refusalAfter (three 20 0 0 ++ arrival (profile (bytes "FF")) ∷ systemCommand (replicate 256 0) ∷ []) next ≡ 0
+  -- Locked while it waits, an applet is not named; unlocked late, it may follow a later one.
+  pub locked-waiting : nextAfter (statusRound ++ next ∷ admin (lock 1) ∷ []) ≡ []
+  pub unlocked-late : namedAfter (three 20 0 300 ++ admin (lock 3) ∷ arrival status ∷ next ∷ admin (unlock 3) ∷ []) ≡ (3 ∷ []) ∷ [] ∷ [] ∷ []
+  -- A late request does not join; one that was lost and regained counts, one that is lost does not.
+  pub late : namedAfter (statusRound ++ asking 2 (pos 20) ∷ []) ≡ (3 ∷ []) ∷ (1 ∷ []) ∷ [] ∷ []
+  pub regained : nextAfter (statusRound ++ asking 3 (pos 0) ∷ asking 3 (pos 9) ∷ []) ≡ 3 ∷ []
+  pub lost : nextAfter (statusRound ++ asking 3 (pos 0) ∷ []) ≡ 1 ∷ []
+  -- A deleted applet's number leaves the round for good.
+  pub installed-again : namedAfter (statusRound ++ admin (delete 3) ∷ plain 3 0 0 ∷ asking 3 (pos 20) ∷ []) ≡ (1 ∷ []) ∷ [] ∷ [] ∷ []
+  -- A row counts if it is enabled at both moments.
+  pub enabled-both : nextAfter (oneRow ++ choosing ∷ entry (disableEntry 1 128) ∷ entry (enableEntry 1 128) ∷ []) ≡ 1 ∷ []
+  pub disabled-then : nextAfter (oneRow ++ choosing ∷ entry (disableEntry 1 128) ∷ []) ≡ []
+  pub disabled-before : nextAfter (oneRow ++ entry (disableEntry 1 128) ∷ choosing ∷ entry (enableEntry 1 128) ∷ []) ≡ []
+  -- Any accepted arrival replaces the round; a refused one leaves it.
+  pub replaced : nextAfter (statusRound ++ forNobody ∷ []) ≡ []
+  pub refused-leaves : nextAfter (statusRound ++ arrival (profile []) ∷ []) ≡ 3 ∷ []
+  -- A one-shot is not used up as settled opens, nor at a turn of another round, but at its turn in settled's.
+  pub not-as-it-opens : nextAfter (oneShot ++ arrival settled ∷ arrival status ∷ next ∷ next ∷ arrival settled ∷ []) ≡ 1 ∷ []
+  pub used-at-its-turn : nextAfter (oneShot ++ arrival settled ∷ next ∷ next ∷ arrival settled ∷ []) ≡ []

@@ -12,13 +12,13 @@ use Rattle.rules.specs.declared.Pair.{Pair}
 use Rattle.rules.specs.declared.Request.{Request}
 use Rattle.rules.specs.Holds.{Model, fresh, document}
 use Rattle.rules.specs.Bytes.{byte}
-use Rattle.rules.specs.Calls.{Outcome, Call, admin, event, entry, timer, arrival, settled, proactive, systemCommand}
-use Rattle.rules.specs.Calls.{install, delete, lock, unlock, setEvent, clearEvent, newEntry, allocate, envelope, profile, response}
+use Rattle.rules.specs.Calls.{Outcome, Call, admin, event, entry, timer, arrival, next, proactive, systemCommand}
+use Rattle.rules.specs.Calls.{install, delete, lock, unlock, setEvent, clearEvent, newEntry, allocate, envelope, profile, settled, response}
 use Rattle.rules.specs.Step.{step}
 
 -- The letters that are known.
 unfoldable pub letters : List ℕ
-letters = ascii "IMECPSOWRTDLU"
+letters = ascii "IMECPSONWRTDLU"
 
 -- What a record makes: a call, or none.
 pub data Order : Type 0 where
@@ -56,7 +56,8 @@ orderBy x a n l =
     if x == code "C" then only-if (n == 2) (event (clearEvent a (signed (byte l 0) (byte l 1)))) else
     if x == code "P" then only-if (a == 0) (arrival (profile l)) else
     if x == code "S" then only-if (a == 0) (arrival (envelope l)) else
-    if x == code "O" then only-if (n == 0 && a == 0) settled else
+    if x == code "O" then only-if (n == 0 && a == 0) (arrival settled) else
+    if x == code "N" then only-if (n == 0 && a == 0) next else
     if x == code "W" then only-if (n == 0 && a == 0) (systemCommand (replicate 256 0)) else
     if x == code "R" then only-if (n == 0 && a == 0) (proactive response) else
     if x == code "T" then only-if (n == 0) (timer (allocate a)) else
@@ -72,14 +73,14 @@ filled r = length r == 24 && byte r 2 ≤? 20 && every? (λ x. x == 0) (drop (by
 unfoldable pub orderOf : List ℕ → Order
 orderOf r = if filled r then orderBy (byte r 0) (byte r 1) (byte r 2) (take (byte r 2) (drop 3 r)) else noCall
 
--- the answer that is printed after an accepted call: the identifier or timer, those called, the command
+-- the answer that is printed after an accepted call: the identifier or timer, the one called, the command
 unfoldable pub shownAnswer : Call → Outcome → List ℕ
 shownAnswer (admin c) o = []
 shownAnswer (event c) o = []
 shownAnswer (entry c) o = o .answer .number ∷ []
 shownAnswer (timer c) o = o .answer .number ∷ []
-shownAnswer (arrival c) o = o .answer .called
-shownAnswer settled o = o .answer .called
+shownAnswer (arrival c) o = []
+shownAnswer next o = o .answer .called
 shownAnswer (proactive c) o = []
 shownAnswer (systemCommand buffer) o = take (o .answer .number) (o .buffer)
 

@@ -1,18 +1,21 @@
 -- The structs of src/ as the rules see them. A list stands in an array with its count beside it and zeros behind it, so that
 -- each content has exactly one form: `viewRow` and its like read a struct, `storedRow` and its like give the one that holds it.
-use Prim.Native.Nat.{_≤_}
+use Prim.Native.Nat.{ℕ, _≤_}
 use mathlib.Core.Path.{_≡_}
 use mathlib.Core.Bool.{false}
 use mathlib.Core.List.{List, [], map}
-use lib.ListN.{length, take}
+use lib.ListN.{length, take, getD}
+use Rattle.lists.specs.Tests.{if_then_else_, _==_}
 use Rattle.lists.specs.Lists.{padded}
 use Rattle.rules.specs.declared.Row as held-row
 use Rattle.rules.specs.declared.Desk as held-desk
 use Rattle.rules.specs.declared.Item as held-item
 use Rattle.rules.specs.declared.Menu as held-menu
 use Rattle.rules.specs.declared.Answer as held-answer
+use Rattle.rules.specs.declared.Arrived.{Arrived}
+use Rattle.rules.specs.declared.Round as held-round
 use Rattle.rules.specs.declared.Rows.{Rows}
-use Rattle.rules.specs.Holds.{Row, Desk, document}
+use Rattle.rules.specs.Holds.{Row, Desk, document, Arrival, event, choice, help, expiry, status, nothing}
 use Rattle.rules.specs.Commands.{Item}
 use Rattle.rules.specs.Calls.{Answer}
 use Rattle.rules.specs.Beside.{ReadOutcome}
@@ -68,6 +71,23 @@ storedDesk d =
       profile = d .profile;
     }
 
+-- what arrived, by its kind and a number
+unfoldable pub viewArrival : Arrived → Arrival
+viewArrival a =
+    if a .kind == 1 then event (a .number) else
+    if a .kind == 2 then choice (a .number) else
+    if a .kind == 3 then help (a .number) else
+    if a .kind == 4 then expiry (a .number) else
+    if a .kind == 5 then status else nothing
+
+unfoldable pub storedArrival : Arrival → Arrived
+storedArrival (event e) = record { kind = 1; number = e }
+storedArrival (choice i) = record { kind = 2; number = i }
+storedArrival (help i) = record { kind = 3; number = i }
+storedArrival (expiry k) = record { kind = 4; number = k }
+storedArrival status = record { kind = 5; number = 0 }
+storedArrival nothing = record { kind = 0; number = 0 }
+
 -- the same for what the menu reader hands back
 unfoldable pub storedItem : Item → held-item.Item
 storedItem i = record { identifier = i .identifier; text = padded (document .text) 0 (i .text); len = length (i .text) }
@@ -83,14 +103,13 @@ storedMenu o =
       count = length (o .menu .items);
     }
 
--- an answer
+-- an answer; 0 where nobody is called
 unfoldable pub storedAnswer : Answer → held-answer.Answer
 storedAnswer a =
     record {
       refusal = a .refusal;
       number = a .number;
       says = a .says;
-      called = padded 8 0 (a .called);
-      count = length (a .called);
+      called = getD (a .called) 0 0;
       marks = a .marks;
     }

@@ -51,6 +51,21 @@ pub record Tables : Type 0 where
   pub timers : List ℕ  -- the owner of each timer; 0 is free
   pub control : ℕ  -- the owner of call control; 0 is nobody
 
+-- What arrives: an event, a menu choice, a request for help on a row, the end of a timer, a STATUS, or nothing that anybody registers for.
+pub data Arrival : Type 0 where
+  event : (place : ℕ) → Arrival
+  choice : (identifier : ℕ) → Arrival
+  help : (identifier : ℕ) → Arrival
+  expiry : (timer : ℕ) → Arrival
+  status : Arrival
+  nothing : Arrival
+
+-- The round: what arrived last, while its applets get their turns (document 02, Ask 2).
+pub record Round : Type 0 where
+  pub isOpen : Bool
+  pub arrived : Arrival
+  pub waiting : List ℕ  -- the numbers, ascending, of those who were registered on arrival and are neither named nor deleted since
+
 -- The desk: what lies between the card and the terminal.
 pub record Desk : Type 0 where
   pub title : List ℕ  -- the menu title
@@ -63,9 +78,13 @@ pub record Desk : Type 0 where
 pub record Model : Type 0 where
   pub tables : Tables
   pub desk : Desk
+  pub round : Round
 
 abbrev pub nothingDue : Due
 nothingDue = record { menu = false; events = false; interval = false; off = false }
+
+abbrev pub noRound : Round
+noRound = record { isOpen = false; arrived = nothing; waiting = [] }
 
 -- a card with this title on which no call was made
 abbrev pub fresh : Bounds → List ℕ → Model
@@ -73,6 +92,7 @@ fresh b title =
     record {
       tables = record { bounds = b; applets = []; rows = []; timers = replicate (b .timers) 0; control = 0 };
       desk = record { title = title; profile = replicate 32 0; session = false; outstanding = false; due = nothingDue };
+      round = noRound;
     }
 
 -- Copies with one part changed.

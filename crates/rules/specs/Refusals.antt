@@ -10,6 +10,8 @@
 --    8  notToSet                                                 18  the buffer has fewer than 256 bytes
 --    9  ownedByAnother, for call control                         19  not outstanding
 --   10  allMade                                                 20  badDuration
+--                                                               21  no round is open
+--                                                               22  a round is open
 --
 -- The calls that need no card (a fresh card, the menu reader, the bank alone) stand in Beside.
 use Prim.Native.Nat.{ℕ}
@@ -26,10 +28,10 @@ use Rattle.rules.specs.Envelopes.{envelopeOf, badEnvelope, commandOf, ba
 use Rattle.rules.specs.Applets.{isNumber, present, applet, outOfRange, tooMany, clash, ownedByAnother, badDuration}
 use Rattle.rules.specs.Rows.{allMade, notItsRow, badText}
 use Rattle.rules.specs.Timers.{atLimit, noneFree, notItsTimer}
-use Rattle.rules.specs.Calls.{Call, admin, event, entry, timer, arrival, settled, proactive, systemCommand}
+use Rattle.rules.specs.Calls.{Call, admin, event, entry, timer, arrival, next, proactive, systemCommand}
 use Rattle.rules.specs.Calls.{AdminCall, install, delete, lock, unlock, EventCall, setEvent, clearEvent, askEvent, requestPoll}
 use Rattle.rules.specs.Calls.{EntryCall, newEntry, changeEntry, enableEntry, disableEntry, TimerCall, allocate, release}
-use Rattle.rules.specs.Calls.{ArrivalCall, envelope, profile, status, ProactiveCall, send, response}
+use Rattle.rules.specs.Calls.{ArrivalCall, envelope, profile, status, settled, ProactiveCall, send, response}
 
 -- a line of the table: its number, and whether it holds
 pub record Line : Type 0 where
@@ -93,11 +95,12 @@ timerLines t (allocate n) =
     line 2 (absent t n) ∷ line 13 (atLimit (t .timers) n (applet t n .limits .timers)) ∷ line 14 (noneFree (t .timers)) ∷ []
 timerLines t (release n k) = line 2 (absent t n) ∷ line 15 (notItsTimer (t .timers) n k) ∷ []
 
--- envelope, profile, STATUS
-unfoldable pub arrivalLines : ArrivalCall → List Line
-arrivalLines (envelope bytes) = line 1 (badEnvelope (envelopeOf bytes)) ∷ []
-arrivalLines (profile bytes) = line 1 (empty? bytes) ∷ []
-arrivalLines status = []
+-- envelope, profile, STATUS, settled
+unfoldable pub arrivalLines : (outstanding isOpen : Bool) → ArrivalCall → List Line
+arrivalLines outstanding isOpen (envelope bytes) = line 1 (badEnvelope (envelopeOf bytes)) ∷ []
+arrivalLines outstanding isOpen (profile bytes) = line 1 (empty? bytes) ∷ []
+arrivalLines outstanding isOpen status = []
+arrivalLines outstanding isOpen settled = line 16 outstanding ∷ line 22 isOpen ∷ []
 
 -- send, response
 unfoldable pub proactiveLines : Tables → Desk → ProactiveCall → List Line
@@ -116,8 +119,8 @@ lines m (admin c) = adminLines (m .tables) c
 lines m (event c) = eventLines (m .tables) c
 lines m (entry c) = entryLines (m .tables) c
 lines m (timer c) = timerLines (m .tables) c
-lines m (arrival c) = arrivalLines c
-lines m settled = line 16 (m .desk .outstanding) ∷ []
+lines m (arrival c) = arrivalLines (m .desk .outstanding) (m .round .isOpen) c
+lines m next = line 21 (not (m .round .isOpen)) ∷ []
 lines m (proactive c) = proactiveLines (m .tables) (m .desk) c
 lines m (systemCommand buffer) = line 16 (m .desk .outstanding) ∷ line 18 (length buffer <? 256) ∷ []
 

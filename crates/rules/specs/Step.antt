@@ -1,22 +1,23 @@
 -- One call on the card: what it changes, what it answers, and that a refusal changes nothing.
 use Prim.Native.Nat.{ℕ, zero, suc}
 use mathlib.Core.Bool.{Bool, true, false, not}
-use mathlib.Core.List.{List, [], _∷_, _++_, map}
+use mathlib.Core.List.{List, [], _∷_, _++_}
 use lib.ListN.{length, drop}
 use Rattle.lists.specs.Lists.{keep, change}
-use Rattle.rules.specs.Holds.{Applet, Tables, Desk, Model, withApplets, withRows, withTimers, withSelectable, withOneMore, withPoll}
+use Rattle.rules.specs.Holds.{Applet, Tables, Desk, Round, Model, withApplets, withRows, withTimers, withSelectable, withOneMore, withPoll}
 use Rattle.rules.specs.Events.{kindOf}
 use Rattle.rules.specs.Envelopes.{envelopeOf}
-use Rattle.rules.specs.Applets.{hasNumber, applet, newcomer, forget, register, isRegistered, secondsOf, usedUp}
+use Rattle.rules.specs.Applets.{hasNumber, applet, newcomer, forget, register, isRegistered, secondsOf}
 use Rattle.rules.specs.Rows.{withEntry, nextIdentifier, withText, withEnabled, withoutRows}
 use Rattle.rules.specs.Timers.{lowestFree, withAllocated, withReleased, withoutTimers}
-use Rattle.rules.specs.Arrivals.{called, arrivalOf, profileArrival, status as statusArrival, settledArrival, envelopeMarks, otherMarks}
+use Rattle.rules.specs.Arrivals.{envelopeMarks, otherMarks}
+use Rattle.rules.specs.Rounds.{arrivedWith, opened, without, named, roundWith, usedUp}
 use Rattle.rules.specs.Desk.{marked, withProfile, withOutstanding, withHandedOut, dueCommand}
-use Rattle.rules.specs.Calls.{Answer, Outcome, accepted, refusedWith, numbered, saying, calling}
-use Rattle.rules.specs.Calls.{Call, admin, event, entry, timer, arrival, settled, proactive, systemCommand}
+use Rattle.rules.specs.Calls.{Answer, Outcome, accepted, refusedWith, numbered, saying, marking, calling}
+use Rattle.rules.specs.Calls.{Call, admin, event, entry, timer, arrival, next, proactive, systemCommand}
 use Rattle.rules.specs.Calls.{AdminCall, install, delete, lock, unlock, EventCall, setEvent, clearEvent, askEvent, requestPoll}
 use Rattle.rules.specs.Calls.{EntryCall, newEntry, changeEntry, enableEntry, disableEntry, TimerCall, allocate, release}
-use Rattle.rules.specs.Calls.{ArrivalCall, envelope, profile, status, ProactiveCall, send, response}
+use Rattle.rules.specs.Calls.{ArrivalCall, envelope, profile, status, settled, ProactiveCall, send, response}
 use Rattle.rules.specs.Refusals.{refusal}
 
 -- What an accepted call leaves of the tables.
@@ -50,22 +51,39 @@ unfoldable pub timerTables : Tables → TimerCall → Tables
 timerTables t (allocate n) = withTimers t (withAllocated (t .timers) n)
 timerTables t (release n k) = withTimers t (withReleased (t .timers) k)
 
--- settled unregisters just those it calls
-unfoldable pub tablesAfter : Tables → Call → Tables
-tablesAfter t (admin c) = adminTables t c
-tablesAfter t (event c) = eventTables t c
-tablesAfter t (entry c) = entryTables t c
-tablesAfter t (timer c) = timerTables t c
-tablesAfter t (arrival c) = t
-tablesAfter t settled = withApplets t (map usedUp (t .applets))
-tablesAfter t (proactive c) = t
-tablesAfter t (systemCommand buffer) = t
+unfoldable pub tablesAfter : Model → Call → Tables
+tablesAfter m (admin c) = adminTables (m .tables) c
+tablesAfter m (event c) = eventTables (m .tables) c
+tablesAfter m (entry c) = entryTables (m .tables) c
+tablesAfter m (timer c) = timerTables (m .tables) c
+tablesAfter m (arrival c) = m .tables
+tablesAfter m next = usedUp (m .round .arrived) (named (m .tables) (m .round)) (m .tables)
+tablesAfter m (proactive c) = m .tables
+tablesAfter m (systemCommand buffer) = m .tables
+
+-- What an accepted call leaves of the round: any arrival replaces it, and a deleted applet's number leaves it for good.
+unfoldable pub adminRound : Round → AdminCall → Round
+adminRound r (install n q) = r
+adminRound r (delete n) = without n r
+adminRound r (lock n) = r
+adminRound r (unlock n) = r
+
+unfoldable pub roundAfter : Model → Call → Round
+roundAfter m (admin c) = adminRound (m .round) c
+roundAfter m (event c) = m .round
+roundAfter m (entry c) = m .round
+roundAfter m (timer c) = m .round
+roundAfter m (arrival c) = opened (m .tables) (arrivedWith c)
+roundAfter m next = roundWith (named (m .tables) (m .round)) (m .round)
+roundAfter m (proactive c) = m .round
+roundAfter m (systemCommand buffer) = m .round
 
 -- What an accepted call leaves of the desk, but for the marks of what it changes.
 unfoldable pub arrivalDesk : Model → ArrivalCall → Desk
 arrivalDesk m (envelope bytes) = m .desk
 arrivalDesk m (profile bytes) = withProfile (m .tables) bytes (m .desk)
 arrivalDesk m status = m .desk
+arrivalDesk m settled = m .desk
 
 unfoldable pub proactiveDesk : Desk → ProactiveCall → Desk
 proactiveDesk d (send n bytes) = withOutstanding true d
@@ -77,14 +95,18 @@ deskAfter m (event c) = m .desk
 deskAfter m (entry c) = m .desk
 deskAfter m (timer c) = m .desk
 deskAfter m (arrival c) = arrivalDesk m c
-deskAfter m settled = m .desk
+deskAfter m next = m .desk
 deskAfter m (proactive c) = proactiveDesk (m .desk) c
 deskAfter m (systemCommand buffer) = withHandedOut (m .desk)
 
 -- The card after an accepted call.
 unfoldable pub changed : Model → Call → Model
 changed m c =
-    record { tables = tablesAfter (m .tables) c; desk = marked (m .tables) (tablesAfter (m .tables) c) (deskAfter m c) }
+    record {
+      tables = tablesAfter m c;
+      desk = marked (m .tables) (tablesAfter m c) (deskAfter m c);
+      round = roundAfter m c;
+    }
 
 -- What an accepted call answers.
 unfoldable pub eventAnswer : Tables → EventCall → Answer
@@ -103,11 +125,11 @@ unfoldable pub timerAnswer : Tables → TimerCall → Answer
 timerAnswer t (allocate n) = numbered (lowestFree (t .timers))
 timerAnswer t (release n k) = accepted
 
-unfoldable pub arrivalAnswer : Tables → (outstanding : Bool) → ArrivalCall → Answer
-arrivalAnswer t outstanding (envelope bytes) =
-    calling (called t (arrivalOf (envelopeOf bytes))) (envelopeMarks outstanding (envelopeOf bytes))
-arrivalAnswer t outstanding (profile bytes) = calling (called t profileArrival) (otherMarks outstanding)
-arrivalAnswer t outstanding status = calling (called t statusArrival) (otherMarks outstanding)
+unfoldable pub arrivalAnswer : (outstanding : Bool) → ArrivalCall → Answer
+arrivalAnswer outstanding (envelope bytes) = marking (envelopeMarks outstanding (envelopeOf bytes))
+arrivalAnswer outstanding (profile bytes) = marking (otherMarks outstanding)
+arrivalAnswer outstanding status = marking (otherMarks outstanding)
+arrivalAnswer outstanding settled = marking (otherMarks outstanding)
 
 -- the marks tell whether a command is left outstanding
 unfoldable pub answer : Model → Call → Answer
@@ -115,8 +137,8 @@ answer m (admin c) = accepted
 answer m (event c) = eventAnswer (m .tables) c
 answer m (entry c) = entryAnswer (m .tables) c
 answer m (timer c) = timerAnswer (m .tables) c
-answer m (arrival c) = arrivalAnswer (m .tables) (arrivalDesk m c .outstanding) c
-answer m settled = calling (called (m .tables) settledArrival) (otherMarks (m .desk .outstanding))
+answer m (arrival c) = arrivalAnswer (arrivalDesk m c .outstanding) c
+answer m next = calling (named (m .tables) (m .round))
 answer m (proactive c) = accepted
 answer m (systemCommand buffer) = numbered (length (dueCommand (m .tables) (m .desk)))
 
@@ -127,7 +149,7 @@ inBuffer f (event c) = []
 inBuffer f (entry c) = []
 inBuffer f (timer c) = []
 inBuffer f (arrival c) = []
-inBuffer f settled = []
+inBuffer f next = []
 inBuffer f (proactive c) = []
 inBuffer f (systemCommand buffer) = f buffer
 

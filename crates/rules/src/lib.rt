@@ -109,6 +109,35 @@ impl Desk {
     pub const PROFILE: usize = 32;
 }
 
+// What arrived: its kind, and an event's place, a row's identifier or a timer.
+#[repr(C)]
+pub struct Arrived {
+    pub kind: u8,
+    pub number: u8,
+}
+
+impl Arrived {
+    pub const NOTHING: u8 = 0;
+
+    pub const EVENT: u8 = 1;
+
+    pub const CHOICE: u8 = 2;
+
+    pub const HELP: u8 = 3;
+
+    pub const EXPIRY: u8 = 4;
+
+    pub const STATUS: u8 = 5;
+}
+
+// The round: whether one is open, what arrived, and the set of those who wait for their turn.
+#[repr(C)]
+pub struct Round {
+    pub open: bool,
+    pub arrived: Arrived,
+    pub waiting: u8,
+}
+
 // What an event value or a download code is: an event that the product supports, by its place in the registrations, or none.
 pub enum Kind {
     Event(u8),
@@ -237,14 +266,13 @@ pub struct Marks {
 }
 
 // The answer of a call on a card or a bank: the refusal's number (0: none), a number (an identifier, a timer, or the length of a
-// command), a yes or no, the applets called, and the marks.
+// command), a yes or no, the applet called (0: nobody), and the marks.
 #[repr(C)]
 pub struct Answer {
     pub refusal: u8,
     pub number: u8,
     pub says: bool,
-    pub called: [u8; Roll::APPLETS],
-    pub count: u8,
+    pub called: u8,
     pub marks: Marks,
 }
 

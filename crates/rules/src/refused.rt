@@ -38,3 +38,7 @@ pub const SHORT_BUFFER: u8 = 18;
 pub const NONE_OUTSTANDING: u8 = 19;
 
 pub const BAD_DURATION: u8 = 20;
+
+pub const NO_ROUND: u8 = 21;
+
+pub const ROUND_OPEN: u8 = 22;

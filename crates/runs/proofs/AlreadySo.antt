@@ -22,7 +22,7 @@ use Rattle.rules.specs.Held.{noRow}
 use Rattle.rules.specs.Desk.{marked}
 use Rattle.rules.specs.Calls.{Outcome, accepted, admin, event, entry, lock, unlock, setEvent, clearEvent, enableEntry, disableEntry}
 use Rattle.rules.specs.Refusals.{firstHolding, absent, adminLines, eventLines, entryLines, lines, refusal}
-use Rattle.rules.specs.Step.{adminTables, eventTables, entryTables, tablesAfter, deskAfter, changed, eventAnswer, entryAnswer, answer, written, outcome, step}
+use Rattle.rules.specs.Step.{adminTables, eventTables, entryTables, tablesAfter, adminRound, roundAfter, deskAfter, changed, eventAnswer, entryAnswer, answer, written, outcome, step}
 use Rattle.rules.proofs.DueMarks.{marked-same}
 use Rattle.runs.proofs.Filled.{is-here}
 use Rattle.runs.proofs.Looked.{has-its-number}
@@ -43,8 +43,8 @@ change-still {A} p f d (x ∷ l) e = go (p x) e (change-still p f d l)
     go false q r = ap (λ (k : List A). x ∷ k) (r q)
 
 -- an accepted call that leaves the tables as they are marks nothing due
-tables-same : (m : Model) (t : Tables) → t ≡ m .tables → _≡_ {A = Model} (record { tables = t; desk = marked (m .tables) t (m .desk) }) m
-tables-same m t e = ap (λ (u : Tables). record { tables = u; desk = marked (m .tables) u (m .desk) }) e ∙ ap (λ d. record { tables = m .tables; desk = d }) (marked-same (m .tables) (m .desk))
+tables-same : (m : Model) (t : Tables) → t ≡ m .tables → _≡_ {A = Model} (record { tables = t; desk = marked (m .tables) t (m .desk); round = m .round }) m
+tables-same m t e = ap (λ (u : Tables). record { tables = u; desk = marked (m .tables) u (m .desk); round = m .round }) e ∙ ap (λ d. record { tables = m .tables; desk = d; round = m .round }) (marked-same (m .tables) (m .desk))
 
 module _ (m : Model) (n : ℕ) (found : absent (m .tables) n ≡ false) where
   here : present (m .tables) n ≡ true
@@ -62,11 +62,11 @@ module _ (m : Model) (n : ℕ) (found : absent (m .tables) n ≡ false) where
 
   -- TO LOCK a locked applet, and TO UNLOCK a selectable one, is accepted and changes nothing.
   pub lock-a-locked-one : applet (m .tables) n .selectable ≡ false → step m (admin (lock n)) ≡ nothingDone m
-  unfolding step outcome changed tablesAfter adminTables deskAfter answer written refusal lines adminLines firstHolding
+  unfolding step outcome changed tablesAfter adminTables deskAfter roundAfter adminRound answer written refusal lines adminLines firstHolding
   lock-a-locked-one e = rw found (ap (λ (k : Model). nothingDone k) (tables-same m _ (selectable-still false e)))
 
   pub unlock-a-selectable-one : applet (m .tables) n .selectable ≡ true → step m (admin (unlock n)) ≡ nothingDone m
-  unfolding step outcome changed tablesAfter adminTables deskAfter answer written refusal lines adminLines firstHolding
+  unfolding step outcome changed tablesAfter adminTables deskAfter roundAfter adminRound answer written refusal lines adminLines firstHolding
   unlock-a-selectable-one e = rw found (ap (λ (k : Model). nothingDone k) (tables-same m _ (selectable-still true e)))
 
   -- a registration as it is
@@ -108,14 +108,14 @@ module _ (m : Model) (n : ℕ) (found : absent (m .tables) n ≡ false) where
   -- TO SET an event that is registered, and TO CLEAR one that is not, is accepted and changes nothing.
   module _ (v : ℤ) (may : notToSet (kindOf v) ≡ false) where
     pub set-a-registered-one : isRegistered (m .tables) n (kindOf v) ≡ true → step m (event (setEvent n v)) ≡ nothingDone m
-    unfolding step outcome changed tablesAfter eventTables deskAfter answer eventAnswer written refusal lines eventLines firstHolding
+    unfolding step outcome changed tablesAfter eventTables deskAfter roundAfter answer eventAnswer written refusal lines eventLines firstHolding
     set-a-registered-one e =
         rw (found, registered-supported (kindOf v) e, may, own-control (kindOf v) e)
         (ap (λ (k : Model). nothingDone k) (tables-same m _ (register-still (kindOf v) true e)))
 
     pub clear-an-unregistered-one : notSupported (kindOf v) ≡ false → isRegistered (m .tables) n (kindOf v) ≡ false
         → step m (event (clearEvent n v)) ≡ nothingDone m
-    unfolding step outcome changed tablesAfter eventTables deskAfter answer eventAnswer written refusal lines eventLines firstHolding
+    unfolding step outcome changed tablesAfter eventTables deskAfter roundAfter answer eventAnswer written refusal lines eventLines firstHolding
     clear-an-unregistered-one known e = rw (found, known, may) (ap (λ (k : Model). nothingDone k) (tables-same m _ (register-still (kindOf v) false e)))
 
   -- TO ENABLE an enabled row of the applet, and TO DISABLE a disabled one, is accepted and changes nothing.
@@ -129,9 +129,9 @@ module _ (m : Model) (n : ℕ) (found : absent (m .tables) n ≡ false) where
         (ap (λ (c : Bool). record { identifier = r .identifier; owner = r .owner; text = r .text; help = r .help; enabled = c }) (sym e)))
 
     pub enable-an-enabled-row : first (itsRow n i) noRow (m .tables .rows) .enabled ≡ true → step m (entry (enableEntry n i)) ≡ nothingDone m
-    unfolding step outcome changed tablesAfter entryTables deskAfter answer entryAnswer written refusal lines entryLines firstHolding
+    unfolding step outcome changed tablesAfter entryTables deskAfter roundAfter answer entryAnswer written refusal lines entryLines firstHolding
     enable-an-enabled-row e = rw (found, its) (ap (λ (k : Model). nothingDone k) (tables-same m _ (enabled-still true e)))
 
     pub disable-a-disabled-row : first (itsRow n i) noRow (m .tables .rows) .enabled ≡ false → step m (entry (disableEntry n i)) ≡ nothingDone m
-    unfolding step outcome changed tablesAfter entryTables deskAfter answer entryAnswer written refusal lines entryLines firstHolding
+    unfolding step outcome changed tablesAfter entryTables deskAfter roundAfter answer entryAnswer written refusal lines entryLines firstHolding
     disable-a-disabled-row e = rw (found, its) (ap (λ (k : Model). nothingDone k) (tables-same m _ (enabled-still false e)))

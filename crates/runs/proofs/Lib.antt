@@ -11,6 +11,7 @@ pub mod Installed
 pub mod Deleted
 pub mod Entered
 pub mod Altered
+pub mod Waiting
 pub mod Run
 pub mod AlreadySo
 pub mod Lowest

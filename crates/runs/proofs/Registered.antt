@@ -1,27 +1,26 @@
--- The event calls, a request for polling, lock, unlock and a settled moment keep the tables sound.
+-- The event calls, a request for polling, lock, unlock and a turn in a round keep the tables sound.
 -- Assumes nothing.
 use Prim.Native.Nat.{ℕ, _≤_}
 use native.Mathlib.Omega.{arith}
-use mathlib.Core.Path.{_≡_, refl, ap, _∙_}
-use mathlib.Core.Bool.{Bool, true, false, _&&_}
+use mathlib.Core.Path.{_≡_, refl}
+use mathlib.Core.Bool.{Bool, true, false}
 use mathlib.Core.Logic.{inr}
-use mathlib.Core.List.{map}
-use lib.ListN.{getD, length-set}
+use mathlib.Core.List.{List, [], _∷_}
+use lib.ListN.{length-set}
 use lib.IntN.{ℤ, pos, negsuc}
-use borrow.Author.Tests.{eqb-true, ltb-false}
+use borrow.Author.Tests.{ltb-false}
 use Rattle.lists.specs.Tests.{if_then_else_, _==_}
 use Rattle.lists.specs.Lists.{Every, change}
-use Rattle.lists.proofs.Decided.{turned}
-use Rattle.lists.proofs.Matched.{matched-change, matched-map}
+use Rattle.lists.proofs.Matched.{matched-change}
 use Rattle.lists.proofs.Ifs.{if-holds}
-use Rattle.lists.proofs.Places.{getD-clear}
 use Rattle.rules.specs.declared.Kind.{Kind}
 use Rattle.rules.specs.declared.Kind.the-variants.{Event, Issuer, Reserved, Unsupported}
-use Rattle.rules.specs.Holds.{Applet, Tables, Model, withApplets, withControl, withSelectable, withEvent, withPoll}
+use Rattle.rules.specs.Holds.{Applet, Tables, Arrival, Model, withApplets, withControl, withSelectable, withEvent, withPoll}
 use Rattle.rules.specs.Events.{kindOf, callControl, handlerAvailable}
-use Rattle.rules.specs.Applets.{hasNumber, present, nobody, forget, withRegistration, register, longestPoll, badDuration, secondsOf, calledWhenSettled, usedUp}
+use Rattle.rules.specs.Applets.{hasNumber, present, nobody, forget, withRegistration, register, longestPoll, badDuration, secondsOf}
 use Rattle.rules.specs.Calls.{EventCall, event, setEvent, clearEvent, askEvent, requestPoll}
 use Rattle.rules.specs.Refusals.{lines, eventLines, refusal}
+use Rattle.rules.specs.Rounds.{bySettled, usedUp}
 use Rattle.rules.specs.Step.{eventTables}
 use Rattle.runs.specs.Sound.{SoundTables}
 use Rattle.runs.proofs.Accepted.{accepted}
@@ -66,23 +65,7 @@ event-sound m (clearEvent n v) e g = register-sound (m .tables) n (kindOf v) fal
 event-sound m (askEvent n v) e g = g
 event-sound m (requestPoll n d) e g = changed-sound (m .tables) n (withPoll (secondsOf d)) (poll-same (secondsOf d) (seconds-few d (accepted m (event (requestPoll n d)) e .1 .0))) g
 
-used-same : (x : Applet) → SameApplet x (usedUp x)
-unfolding usedUp
-used-same x = if-holds (SameApplet x) (calledWhenSettled x) (λ h. search (event-same, same-self)) (λ h. search (event-same, same-self))
-
-pub used-event : (x : Applet) (e : ℕ) → getD (usedUp x .events) e false ≡ (if e == handlerAvailable && x .selectable then false else getD (x .events) e false)
-unfolding usedUp
-used-event x e = go (getD (x .events) handlerAvailable false) (x .selectable) (e == handlerAvailable) refl refl
-  where
-    go : (w s b : Bool) → getD (x .events) handlerAvailable false ≡ w → (e == handlerAvailable) ≡ b
-        → getD ((if w && s then withEvent handlerAvailable false x else x) .events) e false ≡ (if b && s then false else getD (x .events) e false)
-    go true true true q z = getD-clear false (x .events) handlerAvailable e ∙ rw (turned handlerAvailable e, z) refl
-    go true true false q z = getD-clear false (x .events) handlerAvailable e ∙ rw (turned handlerAvailable e, z) refl
-    go true false true q z = refl
-    go true false false q z = refl
-    go false true true q z = ap (λ (k : ℕ). getD (x .events) k false) (eqb-true e handlerAvailable z) ∙ q
-    go false false true q z = refl
-    go false s false q z = refl
-
-pub settled-sound : (t : Tables) → SoundTables t → SoundTables (withApplets t (map usedUp (t .applets)))
-settled-sound t g = applets-frame t _ (matched-map SameApplet usedUp used-same (t .applets)) g
+pub turn-sound : (a : Arrival) (l : List ℕ) (t : Tables) → SoundTables t → SoundTables (usedUp a l t)
+unfolding usedUp withRegistration
+turn-sound a [] t g = g
+turn-sound a (n ∷ l) t g = if-holds SoundTables (bySettled a) (λ h. changed-sound t n (withEvent handlerAvailable false) (event-same handlerAvailable false) g) (λ h. g)

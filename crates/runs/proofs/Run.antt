@@ -16,7 +16,7 @@ use Rattle.lists.proofs.Padded.{length-padded}
 use Rattle.rules.specs.Holds.{Bounds, Tables, Desk, Model, document, fresh}
 use Rattle.rules.specs.Applets.{present, applet}
 use Rattle.rules.specs.Desk.{Matter, dueAfter, marked, withMarks, withProfile, dueMatters, withFirst, withHandedOut}
-use Rattle.rules.specs.Calls.{Call, admin, event, entry, timer, arrival, settled, proactive, systemCommand, envelope, profile, status, send, response}
+use Rattle.rules.specs.Calls.{Call, admin, event, entry, timer, arrival, next, proactive, systemCommand, envelope, profile, status, settled, send, response}
 use Rattle.rules.specs.Refusals.{line, firstHolding, refusal}
 use Rattle.rules.specs.Step.{tablesAfter, arrivalDesk, proactiveDesk, deskAfter, changed, outcome, step}
 use Rattle.rules.specs.Beside.{freshBy, freshCard}
@@ -25,8 +25,9 @@ use Rattle.rules.proofs.Bounds.{step-keeps}
 use Rattle.runs.specs.Sound.{SoundTables, NobodyOrPresent, Sound, requests}
 use Rattle.runs.proofs.Accepted.{lowest-none}
 use Rattle.runs.proofs.Altered.{admin-sound, entry-sound}
-use Rattle.runs.proofs.Registered.{event-sound, settled-sound}
+use Rattle.runs.proofs.Registered.{event-sound, turn-sound}
 use Rattle.runs.proofs.Timed.{timer-sound}
+use Rattle.runs.proofs.Waiting.{none-sound, round-sound}
 
 -- A fresh card.
 fresh-tables : (b : Bounds) → b .rows ≤ 128 → (title : List ℕ) → SoundTables (fresh b title .tables)
@@ -50,7 +51,7 @@ fresh-tables b few title =
     }
 
 fresh-with : (b : Bounds) → b .rows ≤ 128 → (title : List ℕ) → length title ≤ b .title → Sound (fresh b title)
-fresh-with b few title h = record { tables = fresh-tables b few title; title = h; profile = length-replicate {A = ℕ} 32 0 }
+fresh-with b few title h = record { tables = fresh-tables b few title; round = none-sound b; title = h; profile = length-replicate {A = ℕ} 32 0 }
 
 pub fresh-sound : (b : Bounds) → b .rows ≤ 128 → (title : List ℕ) → Sound (freshCard b title .card)
 unfolding freshCard freshBy Every
@@ -61,14 +62,14 @@ fresh-sound b few title = go (firstHolding (line 12 (b .title <? length title) �
     go (suc n) e = fresh-with b few [] (omega arith)
 
 -- The tables after an accepted call.
-tables-sound : (m : Model) (c : Call) → refusal m c ≡ 0 → SoundTables (m .tables) → SoundTables (tablesAfter (m .tables) c)
+tables-sound : (m : Model) (c : Call) → refusal m c ≡ 0 → SoundTables (m .tables) → SoundTables (tablesAfter m c)
 unfolding tablesAfter
 tables-sound m (admin c) e g = admin-sound m c e g
 tables-sound m (event c) e g = event-sound m c e g
 tables-sound m (entry c) e g = entry-sound m c e g
 tables-sound m (timer c) e g = timer-sound m c e g
 tables-sound m (arrival c) e g = g
-tables-sound m settled e g = settled-sound (m .tables) g
+tables-sound m next e g = turn-sound (m .round .arrived) _ (m .tables) g
 tables-sound m (proactive c) e g = g
 tables-sound m (systemCommand buffer) e g = g
 
@@ -98,7 +99,8 @@ desk-lasts m (arrival (envelope bytes)) = lasts (m .desk)
 desk-lasts m (arrival (profile bytes)) =
     record { title = refl; profile = λ h. length-padded 32 0 (take 32 bytes) (omega (arith, length-take 32 bytes)) }
 desk-lasts m (arrival status) = lasts (m .desk)
-desk-lasts m settled = lasts (m .desk)
+desk-lasts m (arrival settled) = lasts (m .desk)
+desk-lasts m next = lasts (m .desk)
 desk-lasts m (proactive (send n bytes)) = record { title = refl; profile = λ h. h }
 desk-lasts m (proactive response) = record { title = refl; profile = λ h. h }
 desk-lasts m (systemCommand buffer) = handed-lasts (m .desk)
@@ -115,11 +117,12 @@ marked-lasts before later d = go (d .session)
 changed-sound : (m : Model) (c : Call) → refusal m c ≡ 0 → Sound m → Sound (changed m c)
 unfolding changed outcome step
 changed-sound m c e s =
-    let kept : tablesAfter (m .tables) c .bounds ≡ m .tables .bounds = sym (ap (λ (n : ℕ). outcome n m c .after .tables .bounds) e) ∙ step-keeps m c in
+    let kept : tablesAfter m c .bounds ≡ m .tables .bounds = sym (ap (λ (n : ℕ). outcome n m c .after .tables .bounds) e) ∙ step-keeps m c in
     let d = desk-lasts m c in
-    let k = marked-lasts (m .tables) (tablesAfter (m .tables) c) (deskAfter m c) in
+    let k = marked-lasts (m .tables) (tablesAfter m c) (deskAfter m c) in
     record {
       tables = tables-sound m c e (s .tables);
+      round = rw kept (round-sound m c (s .round));
       title = rw (k .title, d .title, kept) (s .title);
       profile = k .profile (d .profile (s .profile));
     }

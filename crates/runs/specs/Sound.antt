@@ -1,16 +1,16 @@
 -- What holds of every card that a fresh card and calls have left.
 use Prim.Native.Nat.{ℕ, _≤_}
 use mathlib.Core.Path.{_≡_}
-use mathlib.Core.Bool.{true}
+use mathlib.Core.Bool.{true, false}
 use mathlib.Core.Logic.{_⊎_}
 use mathlib.Core.List.{List}
 use lib.ListN.{length, take}
 use Rattle.lists.specs.Tests.{_==_}
-use Rattle.lists.specs.Lists.{Every, count, sum, gather, in?}
+use Rattle.lists.specs.Lists.{Every, keep, count, sum, gather, in?}
 use Rattle.rules.specs.declared.Pair.{Pair}
-use Rattle.rules.specs.Holds.{Applet, Row, Bounds, Tables, Model}
+use Rattle.rules.specs.Holds.{Applet, Row, Bounds, Tables, Round, Model, noRound}
 use Rattle.rules.specs.Events.{supported}
-use Rattle.rules.specs.Applets.{hasNumber, present, applet, entries, requested, longestPoll}
+use Rattle.rules.specs.Applets.{numbers, hasNumber, present, applet, entries, requested, longestPoll}
 use Rattle.rules.specs.Rows.{hasIdentifier}
 
 -- an applet: its number, its limits within the bounds, no more entries made than its limit, and its request
@@ -70,8 +70,14 @@ pub record SoundTables (t : Tables) : Type 0 where
   -- call control has an owner that is present, or none
   pub control : NobodyOrPresent t (t .control)
 
+-- The round: with none open nothing is kept of the last one, and those who wait stand in the order of their numbers.
+pub record SoundRound (b : Bounds) (r : Round) : Type 0 where
+  pub closed : r .isOpen ≡ false → r ≡ noRound
+  pub waiting : r .waiting ≡ keep (λ n. in? n (r .waiting)) (numbers b)
+
 -- THE CARD.
 pub record Sound (m : Model) : Type 0 where
   pub tables : SoundTables (m .tables)
+  pub round : SoundRound (m .tables .bounds) (m .round)
   pub title : length (m .desk .title) ≤ m .tables .bounds .title
   pub profile : length (m .desk .profile) ≡ 32

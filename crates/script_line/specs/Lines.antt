@@ -30,6 +30,7 @@ formOf x =
     if x == code "P" then Bytes else
     if x == code "S" then Bytes else
     if x == code "O" then Alone else
+    if x == code "N" then Alone else
     if x == code "W" then Alone else
     if x == code "R" then Alone else Unknown
 

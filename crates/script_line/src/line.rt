@@ -35,6 +35,7 @@ fn form(letter: u8) -> Form
         b'P' => Form::Bytes,
         b'S' => Form::Bytes,
         b'O' => Form::Alone,
+        b'N' => Form::Alone,
         b'W' => Form::Alone,
         b'R' => Form::Alone,
         _ => Form::Unknown,

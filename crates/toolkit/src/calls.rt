@@ -4,9 +4,9 @@ use card::Card;
 use rules::Answer;
 use rules::Request;
 ghost use mathlib.Core.List.{[]};
-ghost use Rattle.rules.specs.Calls.{admin, event, entry, timer as timer-call, arrival, settled, proactive, systemCommand};
+ghost use Rattle.rules.specs.Calls.{admin, event, entry, timer as timer-call, arrival, next, proactive, systemCommand};
 ghost use Rattle.rules.specs.Calls.{install, delete, lock, unlock, setEvent, clearEvent, askEvent, requestPoll, newEntry, changeEntry, enableEntry, disableEntry};
-ghost use Rattle.rules.specs.Calls.{allocate, release, profile, envelope, status, send, response};
+ghost use Rattle.rules.specs.Calls.{allocate, release, profile, envelope, status, settled, send, response};
 ghost use Rattle.card.specs.View.{Left};
 ghost use Rattle.toolkit.specs.Does.{Does};
 
@@ -183,7 +183,7 @@ pub extern "C" fn toolkit_release_timer(card: &mut Card, applet: u8, timer: u8) 
     after.answer
 }
 
-// Begins a session with the terminal's profile, and names whom to call.
+// Begins a session with the terminal's profile, and opens a round for those who take it.
 #[no_mangle]
 pub extern "C" fn toolkit_profile(card: &mut Card, bytes: &[u8]) -> Answer
     requires { ⌜ Left (now card) ⌝ }
@@ -195,7 +195,7 @@ pub extern "C" fn toolkit_profile(card: &mut Card, bytes: &[u8]) -> Answer
     after.answer
 }
 
-// Names whom to call for an envelope.
+// Opens a round for those whom an envelope is for.
 #[no_mangle]
 pub extern "C" fn toolkit_envelope(card: &mut Card, bytes: &[u8]) -> Answer
     requires { ⌜ Left (now card) ⌝ }
@@ -203,10 +203,11 @@ pub extern "C" fn toolkit_envelope(card: &mut Card, bytes: &[u8]) -> Answer
 {
     let before = *card;
     let after = before.envelope(bytes);
+    *card = after.card;
     after.answer
 }
 
-// Names those who request a poll interval.
+// Opens a round for those who request a poll interval.
 #[no_mangle]
 pub extern "C" fn toolkit_status(card: &mut Card) -> Answer
     requires { ⌜ Left (now card) ⌝ }
@@ -214,17 +215,30 @@ pub extern "C" fn toolkit_status(card: &mut Card) -> Answer
 {
     let before = *card;
     let after = before.status();
+    *card = after.card;
     after.answer
 }
 
-// Names those who waited for the proactive handler, and unregisters just these.
+// Opens a round for those who wait for the proactive handler.
 #[no_mangle]
 pub extern "C" fn toolkit_settled(card: &mut Card) -> Answer
     requires { ⌜ Left (now card) ⌝ }
-    ensures { λ r. ⌜ Does (now (card .entry)) settled (now (card .exit)) r [] ⌝ }
+    ensures { λ r. ⌜ Does (now (card .entry)) (arrival settled) (now (card .exit)) r [] ⌝ }
 {
     let before = *card;
     let after = before.settled();
+    *card = after.card;
+    after.answer
+}
+
+// Names the applet whose turn it is in the round; where there is none, the round ends.
+#[no_mangle]
+pub extern "C" fn toolkit_next(card: &mut Card) -> Answer
+    requires { ⌜ Left (now card) ⌝ }
+    ensures { λ r. ⌜ Does (now (card .entry)) next (now (card .exit)) r [] ⌝ }
+{
+    let before = *card;
+    let after = before.next();
     *card = after.card;
     after.answer
 }

@@ -2,12 +2,11 @@
 -- Assumes nothing.
 use mathlib.Core.Path.{refl}
 use Rattle.rules.specs.Held.{storedAnswer}
-use Rattle.lists.specs.Lists.{padded}
 use Rattle.answers.proofs.plain.Statement.{statement}
 use Rattle.answers.proofs.plain.Tie as tie
 
 returns : tie.Need-returns
-unfolding storedAnswer padded
+unfolding storedAnswer
 returns c = refl
 
 pub plain-spec : {M : Type 1} → statement M

@@ -10,8 +10,8 @@ use Rattle.arrivals.proofs.answered.Tie as tie
 
 returns : tie.Need-returns
 returns c =
-    let a = c .before .before .before .before .args in
-    ap (λ (m : Marks). record { refusal = a .refusal; number = 0; says = false; called = a .callees .at; count = a .callees .count; marks = m }) (allowed (a .refusal == 0) (a .marks))
+    let a = c .before .before .before .args in
+    ap (λ (m : Marks). record { refusal = a .refusal; number = 0; says = false; called = 0; marks = m }) (allowed (a .refusal == 0) (a .marks))
 
 pub answered-spec : {M : Type 1} → statement M
 answered-spec = tie.close (tie.spec returns)

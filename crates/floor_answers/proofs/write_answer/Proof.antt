@@ -1,7 +1,7 @@
 -- `floor_answers::write_answer` meets its contract: a case for each sort of answer.
 -- Assumes nothing.
 use Prim.Native.Char.{code}
-use mathlib.Core.Path.{refl}
+use mathlib.Core.Path.{refl, _∙_}
 use mathlib.Core.Logic.{inl, inr, ⊎-elim}
 use denote.Ref.{now}
 use borrow.Author.Needs.{needs}
@@ -9,7 +9,7 @@ use Rattle.lists.specs.Lists.{some?, in?}
 use Rattle.lists.specs.Text.{ascii}
 use Rattle.floor_lines.specs.Texts.{refusalText}
 use Rattle.floor_answers.specs.Shown.{shownBy}
-use Rattle.floor_answers.proofs.AnswerLaws.{no-call-line, refused-line, accepted-line, shown-at, shown-none, first-few}
+use Rattle.floor_answers.proofs.AnswerLaws.{no-call-line, refused-line, accepted-line, shown-at, shown-none, one-called, first-few}
 use Rattle.floor_answers.proofs.write_answer.Statement.{statement}
 use Rattle.floor_answers.proofs.write_answer.Tie as tie
 
@@ -53,6 +53,12 @@ returns-2 c k e =
     let s = t .before .before .before .before .before .args in
     refused-line k (s .letter) _ (s .answer) _ (t .before .if1 .left) (t .if2 .taken) (p .write-line2 .ensures k e)
 
+slice-aggregate-write-line-3 : tie.Need-slice-aggregate-write-line-3
+slice-aggregate-write-line-3 c = search needs
+
+write-line-requires-3 : tie.Need-write-line-requires-3
+write-line-requires-3 c κs = search needs
+
 slice-aggregate-first : tie.Need-slice-aggregate-first
 slice-aggregate-first c = search needs
 
@@ -62,17 +68,8 @@ cast-first c = search needs
 first-requires : tie.Need-first-requires
 first-requires c κs = search needs
 
-slice-aggregate-write-line-3 : tie.Need-slice-aggregate-write-line-3
-slice-aggregate-write-line-3 c = search needs
-
-write-line-requires-3 : tie.Need-write-line-requires-3
-write-line-requires-3 c κs = search needs
-
 write-line-requires-4 : tie.Need-write-line-requires-4
 write-line-requires-4 c κs = search (first-few, needs)
-
-write-line-requires-5 : tie.Need-write-line-requires-5
-write-line-requires-5 c κs = search (first-few, needs)
 
 cast-first-2 : tie.Need-cast-first-2
 cast-first-2 c = search needs
@@ -80,8 +77,8 @@ cast-first-2 c = search needs
 first-requires-2 : tie.Need-first-requires-2
 first-requires-2 c κs = search needs
 
-write-line-requires-6 : tie.Need-write-line-requires-6
-write-line-requires-6 c κs = search (first-few, needs)
+write-line-requires-5 : tie.Need-write-line-requires-5
+write-line-requires-5 c κs = search (first-few, needs)
 
 array-share-prefix-one-3 : tie.Need-array-share-prefix-one-3
 array-share-prefix-one-3 c = search needs
@@ -89,8 +86,8 @@ array-share-prefix-one-3 c = search needs
 slice-aggregate-write-line-4 : tie.Need-slice-aggregate-write-line-4
 slice-aggregate-write-line-4 c = search needs
 
-write-line-requires-7 : tie.Need-write-line-requires-7
-write-line-requires-7 c κs = search needs
+write-line-requires-6 : tie.Need-write-line-requires-6
+write-line-requires-6 c κs = search needs
 
 same-length-3 : tie.Need-same-length-3
 same-length-3 c = search needs
@@ -100,8 +97,7 @@ unfolding refusalText shownBy in? some? ascii
 returns-3 c k e =
     let p = c .before .before in
     let m = p .before .before .before in
-    let f = m .before in
-    let i = f .before .before .before .before in
+    let i = m .before in
     let s = i .before .before .before .before .before .args in
     accepted-line k (s .letter) (s .call) (s .answer) (now (s .out)) (i .before .if1 .left) (i .if2 .left)
     (⊎-elim (λ h. shown-at (s .call) (s .answer) (now (s .out)) (code "M") h refl) (λ h. shown-at (s .call) (s .answer) (now (s .out)) (code "T") h refl) (m .match .keys1))
@@ -114,12 +110,11 @@ returns-4 : tie.Need-returns-4
 unfolding refusalText shownBy in? some? ascii
 returns-4 c k e =
     let p = c .before .before in
-    let m = p .before .before in
-    let f = m .before in
-    let i = f .before .before .before .before in
+    let m = p .before .before .before .before .before in
+    let i = m .before in
     let s = i .before .before .before .before .before .args in
     accepted-line k (s .letter) (s .call) (s .answer) (now (s .out)) (i .before .if1 .left) (i .if2 .left)
-    (⊎-elim (λ h. shown-at (s .call) (s .answer) (now (s .out)) (code "P") h (f .first .ensures)) (λ h. shown-at (s .call) (s .answer) (now (s .out)) (code "S") h (f .first .ensures)) (m .match .keys2))
+    (shown-at (s .call) (s .answer) (now (s .out)) (code "N") (m .match .keys2) (p .before .first .ensures ∙ one-called (s .answer .called)))
     (p .write-line4 .ensures k e)
 
 same-length-5 : tie.Need-same-length-5
@@ -129,12 +124,11 @@ returns-5 : tie.Need-returns-5
 unfolding refusalText shownBy in? some? ascii
 returns-5 c k e =
     let p = c .before .before in
-    let m = p .before .before in
-    let f = m .before in
-    let i = f .before .before .before .before in
+    let m = p .before .before .before .before in
+    let i = m .before in
     let s = i .before .before .before .before .before .args in
     accepted-line k (s .letter) (s .call) (s .answer) (now (s .out)) (i .before .if1 .left) (i .if2 .left)
-    (shown-at (s .call) (s .answer) (now (s .out)) (code "O") (m .match .keys3) (f .first .ensures))
+    (shown-at (s .call) (s .answer) (now (s .out)) (code "W") (m .match .keys3) (p .before .first2 .ensures))
     (p .write-line5 .ensures k e)
 
 same-length-6 : tie.Need-same-length-6
@@ -144,28 +138,12 @@ returns-6 : tie.Need-returns-6
 unfolding refusalText shownBy in? some? ascii
 returns-6 c k e =
     let p = c .before .before in
-    let m = p .before .before .before .before in
-    let f = m .before in
-    let i = f .before .before .before .before in
-    let s = i .before .before .before .before .before .args in
-    accepted-line k (s .letter) (s .call) (s .answer) (now (s .out)) (i .before .if1 .left) (i .if2 .left)
-    (shown-at (s .call) (s .answer) (now (s .out)) (code "W") (m .match .keys4) (p .before .first2 .ensures))
-    (p .write-line6 .ensures k e)
-
-same-length-7 : tie.Need-same-length-7
-same-length-7 c = search needs
-
-returns-7 : tie.Need-returns-7
-unfolding refusalText shownBy in? some? ascii
-returns-7 c k e =
-    let p = c .before .before in
     let m = p .before .before .before in
-    let f = m .before in
-    let i = f .before .before .before .before in
+    let i = m .before in
     let s = i .before .before .before .before .before .args in
     accepted-line k (s .letter) (s .call) (s .answer) (now (s .out)) (i .before .if1 .left) (i .if2 .left)
-    (let r = m .match .rest in shown-none (s .call) (s .answer) (now (s .out)) (λ h. r .0 .0 .0 .1 (inl h)) (λ h. r .0 .0 .0 .1 (inr h)) (λ h. r .0 .0 .1 (inl h)) (λ h. r .0 .0 .1 (inr h)) (r .0 .1) (r .1))
-    (p .write-line7 .ensures k e)
+    (let r = m .match .rest in shown-none (s .call) (s .answer) (now (s .out)) (λ h. r .0 .0 .1 (inl h)) (λ h. r .0 .0 .1 (inr h)) (r .0 .1) (r .1))
+    (p .write-line6 .ensures k e)
 
 pub write-answer-spec : {M : Type 1} → statement M
 write-answer-spec =
@@ -181,19 +159,18 @@ write-answer-spec =
     write-line-requires-2
     same-length-2
     returns-2
+    slice-aggregate-write-line-3
+    write-line-requires-3
     slice-aggregate-first
     cast-first
     first-requires
-    slice-aggregate-write-line-3
-    write-line-requires-3
     write-line-requires-4
-    write-line-requires-5
     cast-first-2
     first-requires-2
-    write-line-requires-6
+    write-line-requires-5
     array-share-prefix-one-3
     slice-aggregate-write-line-4
-    write-line-requires-7
+    write-line-requires-6
     same-length-3
     returns-3
     same-length-4
@@ -201,6 +178,4 @@ write-answer-spec =
     same-length-5
     returns-5
     same-length-6
-    returns-6
-    same-length-7
-    returns-7)
+    returns-6)

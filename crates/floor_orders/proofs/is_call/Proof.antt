@@ -58,27 +58,42 @@ returns-6 c =
 returns-7 : tie.Need-returns-7
 unfolding orderBy
 returns-7 c =
-    let s = c .before .before .args in
-    by-letter (s .applet) (now (s .arguments)) (code "T") (c .match .keys6) (made-if _ _)
+    let s = c .before .before .before .args in
+    by-letter (s .applet) (now (s .arguments)) (code "N") (c .before .match .keys6) (then-none (length (now (s .arguments))) (s .applet) (c .if2 .taken) ∙ made-if _ _)
 
 returns-8 : tie.Need-returns-8
 unfolding orderBy
 returns-8 c =
-    let s = c .before .before .args in
-    ⊎-elim (λ e. by-letter (s .applet) (now (s .arguments)) (code "D") e (made-if _ _)) (⊎-elim (λ e. by-letter (s .applet) (now (s .arguments)) (code "L") e (made-if _ _)) (λ e. by-letter (s .applet) (now (s .arguments)) (code "U") e (made-if _ _))) (c .match .keys7)
+    let s = c .before .before .before .args in
+    by-letter (s .applet) (now (s .arguments)) (code "N") (c .before .match .keys6) (else-some (length (now (s .arguments))) (s .applet) (c .if2 .left) ∙ made-if _ _)
 
 returns-9 : tie.Need-returns-9
-unfolding makesCall
+unfolding orderBy
 returns-9 c =
     let s = c .before .before .args in
+    by-letter (s .applet) (now (s .arguments)) (code "T") (c .match .keys7) (made-if _ _)
+
+returns-10 : tie.Need-returns-10
+unfolding orderBy
+returns-10 c =
+    let s = c .before .before .args in
+    ⊎-elim (λ e. by-letter (s .applet) (now (s .arguments)) (code "D") e (made-if _ _)) (⊎-elim (λ e. by-letter (s .applet) (now (s .arguments)) (code "L") e (made-if _ _)) (λ e. by-letter (s .applet) (now (s .arguments)) (code "U") e (made-if _ _))) (c .match .keys8)
+
+returns-11 : tie.Need-returns-11
+unfolding makesCall
+returns-11 c =
+    let s = c .before .before .args in
     let r = c .match .rest in
-    let q = r .0 .0 in
+    let q = r .0 .0 .0 in
     let none : NoLetter (s .letter) = (
       (
         (
           (
             (
-              ((((((q .0 .0 .0, λ e. q .0 .0 .1 (inr e)), λ e. q .0 .0 .1 (inl e)), λ e. q .0 .1 (inl e)), λ e. q .0 .1 (inr e)), λ e. q .1 (inl e)), λ e. q .1 (inr (inr e))),
+              (
+                ((((((q .0 .0 .0, λ e. q .0 .0 .1 (inr e)), λ e. q .0 .0 .1 (inl e)), λ e. q .0 .1 (inl e)), λ e. q .0 .1 (inr e)), λ e. q .1 (inl e)), r .0 .0 .1),
+                λ e. q .1 (inr (inr e)),
+              ),
               λ e. q .1 (inr (inl e)),
             ),
             r .0 .1,
@@ -104,4 +119,6 @@ is-call-spec =
     returns-6
     returns-7
     returns-8
-    returns-9)
+    returns-9
+    returns-10
+    returns-11)

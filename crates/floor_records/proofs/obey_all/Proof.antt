@@ -16,7 +16,7 @@ use Rattle.floor_lines.proofs.LineLaws.{decimal-20}
 use Rattle.floor_lines.proofs.Counting.{spells-few, wrote-spells}
 use Rattle.floor_records.specs.Pieces.{recordsIn}
 use Rattle.floor_records.proofs.ObeyLaws.{Heard, Made, made-command, made-none, at-record}
-use Rattle.floor_records.proofs.Letters.{installs, enters, sets, clears, profiles, arrives, settles, responds, allocates, deletes, locks, unlocks}
+use Rattle.floor_records.proofs.Letters.{installs, enters, sets, clears, profiles, arrives, settles, turns, responds, allocates, deletes, locks, unlocks}
 use Rattle.floor_records.proofs.Begun.{Begun, line-short, begun-none, begun-more, begun-all}
 use Rattle.floor_records.proofs.obey_all.Statement.{statement}
 use Rattle.floor_records.proofs.obey_all.Tie as tie
@@ -94,6 +94,9 @@ envelope-requires c κs = search needs
 settled-requires : tie.Need-settled-requires Inv-loop μ-loop
 settled-requires c κs = search needs
 
+next-requires : tie.Need-next-requires Inv-loop μ-loop
+next-requires c κs = search needs
+
 slice-aggregate-system-command : tie.Need-slice-aggregate-system-command Inv-loop μ-loop
 slice-aggregate-system-command c = search needs
 
@@ -139,13 +142,14 @@ made j =
     (⊎-elim (λ w. profiles h (w .0 .keys5) (w .1 .ensures) (w .2) (w .3))
     (⊎-elim (λ w. arrives h (w .0 .keys6) (w .1 .ensures) (w .2) (w .3))
     (⊎-elim (λ w. settles h (w .0 .keys7) (w .1 .ensures) (w .2) (w .3))
-    (⊎-elim (λ w. made-command h (w .0 .keys8) (w .2 .ensures) (w .2 .kept .1 .0) (w .4) (w .5))
-    (⊎-elim (λ w. responds h (w .0 .keys9) (w .1 .ensures) (w .2) (w .3))
-    (⊎-elim (λ w. allocates h (w .0 .keys10) (w .1 .ensures) (w .2) (w .3))
-    (⊎-elim (λ w. deletes h (w .0 .keys11) (w .1 .ensures) (w .2) (w .3))
-    (⊎-elim (λ w. locks h (w .0 .keys12) (w .1 .ensures) (w .2) (w .3))
-    (⊎-elim (λ w. unlocks h (w .0 .keys13) (w .1 .ensures) (w .2) (w .3))
-    (λ w. made-none h (w .0 .rest) (w .1 .ensures) (w .2) (w .3))))))))))))))
+    (⊎-elim (λ w. turns h (w .0 .keys8) (w .1 .ensures) (w .2) (w .3))
+    (⊎-elim (λ w. made-command h (w .0 .keys9) (w .2 .ensures) (w .2 .kept .1 .0) (w .4) (w .5))
+    (⊎-elim (λ w. responds h (w .0 .keys10) (w .1 .ensures) (w .2) (w .3))
+    (⊎-elim (λ w. allocates h (w .0 .keys11) (w .1 .ensures) (w .2) (w .3))
+    (⊎-elim (λ w. deletes h (w .0 .keys12) (w .1 .ensures) (w .2) (w .3))
+    (⊎-elim (λ w. locks h (w .0 .keys13) (w .1 .ensures) (w .2) (w .3))
+    (⊎-elim (λ w. unlocks h (w .0 .keys14) (w .1 .ensures) (w .2) (w .3))
+    (λ w. made-none h (w .0 .rest) (w .1 .ensures) (w .2) (w .3)))))))))))))))
     (j .match .came)
 
 -- in a turn there is room for a line, the number has at most 20 digits, and the next number and the next turn can be counted
@@ -264,6 +268,7 @@ obey-all-spec =
     profile-requires
     envelope-requires
     settled-requires
+    next-requires
     slice-aggregate-system-command
     system-command-requires
     response-requires

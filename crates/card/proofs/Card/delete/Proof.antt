@@ -71,6 +71,9 @@ owner-without-requires c κs = search needs
 without-requires : tie.Need-without-requires
 without-requires c κs = tidy-rows _ (c .before .before .before .before .before .before .before .before .before .before .before .before .before .before .before .before .before .before .before .before .pre)
 
+switched-requires-2 : tie.Need-switched-requires-2
+switched-requires-2 c κs = search needs
+
 absent-refusal-requires : tie.Need-absent-refusal-requires
 absent-refusal-requires c κs = search needs
 
@@ -85,9 +88,9 @@ returns c =
     let s = h .before in
     ⊎-elim
     (λ w. deletes (s .args .self) (s .pre) (s .args .applet) (h .has .ensures) (a .absent-refusal .ensures) (w .0 .taken)
-    (w .24
+    (w .26
     ∙ removes (s .args .self) (s .pre) (s .args .applet) (sym (h .has .ensures) ∙ w .0 .taken)
-    (w .1 .ensures) (w .7 .ensures) (w .8 .ensures) (w .10 .ensures) (w .11 .ensures) (w .12 .ensures) (w .13 .ensures) (w .14 .ensures) (w .15 .ensures) (w .16 .ensures) (w .17 .ensures) (w .18 .ensures) (w .19 .ensures))
+    (w .1 .ensures) (w .7 .ensures) (w .8 .ensures) (w .10 .ensures) (w .11 .ensures) (w .12 .ensures) (w .13 .ensures) (w .14 .ensures) (w .15 .ensures) (w .16 .ensures) (w .17 .ensures) (w .18 .ensures) (w .19 .ensures) (w .20 .ensures))
     (c .of-refusal .ensures))
     (λ w. deletes-none (s .args .self) (s .pre) (s .args .applet) (h .has .ensures) (a .absent-refusal .ensures) (w .0 .left) (w .1) (c .of-refusal .ensures))
     (j .if1 .came)
@@ -110,6 +113,7 @@ delete-spec =
     freed-requires
     owner-without-requires
     without-requires
+    switched-requires-2
     absent-refusal-requires
     of-refusal-requires
     returns)

@@ -1,9 +1,8 @@
--- `envelope`: refused where the bytes are malformed; those whom it is for are called.
+-- `envelope`: refused where the bytes are malformed, else a round is opened for those whom it is for.
 -- Assumes nothing.
-use borrow.Author.Needs.{needs}
 use Rattle.card.proofs.Left.{tidy-rows}
-use Rattle.card.proofs.Order.{count-small}
-use Rattle.card.proofs.Envelope.{comes}
+use Rattle.card.proofs.Arrival.{comes}
+use borrow.Author.Needs.{needs}
 use Rattle.card.proofs.Card.envelope.Statement.{statement}
 use Rattle.card.proofs.Card.envelope.Tie as tie
 
@@ -16,14 +15,14 @@ is-bad-requires c κs = search needs
 refusal-if-requires : tie.Need-refusal-if-requires
 refusal-if-requires c κs = search needs
 
-whom-requires : tie.Need-whom-requires
-whom-requires c κs = tidy-rows _ (c .before .before .before .before .before .before .before .pre)
+arrival-of-requires : tie.Need-arrival-of-requires
+arrival-of-requires c κs = search needs
 
-called-requires : tie.Need-called-requires
-called-requires c κs = search needs
+envelope-whom-requires : tie.Need-envelope-whom-requires
+envelope-whom-requires c κs = tidy-rows _ (c .before .before .before .before .before .before .before .before .pre)
 
-listed-requires : tie.Need-listed-requires
-listed-requires c κs = count-small _ (c .before .before .before .before .before .before .before .before .before .before .pre)
+opened-requires : tie.Need-opened-requires
+opened-requires c κs = search needs
 
 envelope-marks-requires : tie.Need-envelope-marks-requires
 envelope-marks-requires c κs = search needs
@@ -32,16 +31,7 @@ answered-requires : tie.Need-answered-requires
 answered-requires c κs = search needs
 
 returns : tie.Need-returns
-returns c =
-    let n = c .before in
-    let k = n .before in
-    let w = k .before .before in
-    let f = w .before in
-    let r = f .before .before .before .before in
-    let x = r .before in
-    let e = x .before in
-    comes _ (e .before .before .pre) _ (e .read-envelope .ensures) (x .is-bad .ensures) (r .refusal-if .ensures) (f .whom .ensures) (w .called .ensures)
-    (k .listed .ensures) (n .envelope-marks .ensures) (c .answered .ensures)
+returns c = comes _ (c .before .before .before .before .before .before .before .before .before .before .before .before .before .pre) _ (c .before .before .before .before .before .before .before .before .before .before .before .read-envelope .ensures) (c .before .before .before .before .before .before .before .before .before .before .is-bad .ensures) (c .before .before .before .before .before .before .before .before .before .refusal-if .ensures) (c .before .before .before .before .before .before .before .before .arrival-of .ensures) (c .before .before .before .before .envelope-whom .ensures) (c .before .before .opened .ensures) (c .before .envelope-marks .ensures) (c .answered .ensures)
 
 pub envelope-spec : {M : Type 1} → statement M
 envelope-spec =
@@ -50,9 +40,9 @@ envelope-spec =
     read-envelope-requires
     is-bad-requires
     refusal-if-requires
-    whom-requires
-    called-requires
-    listed-requires
+    arrival-of-requires
+    envelope-whom-requires
+    opened-requires
     envelope-marks-requires
     answered-requires
     returns)

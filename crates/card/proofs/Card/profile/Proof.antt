@@ -1,9 +1,8 @@
--- `profile`: refused where there are no bytes, else a session begins; those registered are called.
+-- `profile`: refused where there are no bytes, else a session begins and a round is opened.
 -- Assumes nothing.
-use borrow.Author.Needs.{needs}
 use Rattle.card.proofs.Left.{tidy-rows}
-use Rattle.card.proofs.Order.{count-small}
 use Rattle.card.proofs.Profile.{begins-session, refuses-profile}
+use borrow.Author.Needs.{needs}
 use Rattle.card.proofs.Card.profile.Statement.{statement}
 use Rattle.card.proofs.Card.profile.Tie as tie
 
@@ -13,11 +12,11 @@ refusal-if-requires c κs = search needs
 array-read-whom : tie.Need-array-read-whom
 array-read-whom c = search needs
 
-called-requires : tie.Need-called-requires
-called-requires c κs = search needs
+event-at-requires : tie.Need-event-at-requires
+event-at-requires c κs = search needs
 
-listed-requires : tie.Need-listed-requires
-listed-requires c κs = count-small _ (c .before .before .before .before .before .pre)
+opened-requires : tie.Need-opened-requires
+opened-requires c κs = search needs
 
 other-marks-requires : tie.Need-other-marks-requires
 other-marks-requires c κs = search needs
@@ -38,28 +37,10 @@ begun-requires : tie.Need-begun-requires
 begun-requires c κs = search needs
 
 returns : tie.Need-returns
-returns c =
-    let d = c .before in
-    let i = d .before .before in
-    let y = i .before .before in
-    let x = y .before in
-    let a = x .before .before in
-    let n = a .before in
-    let k = n .before in
-    let w = k .before .before in
-    let r = w .before .before in
-    begins-session _ (r .before .before .pre) _ (r .refusal-if .ensures) (w .called .ensures) (k .listed .ensures) (n .other-marks .ensures) (a .answered .ensures)
-    (x .has-shown-row .ensures) (y .any-listened .ensures) (i .any-polled .ensures) (d .begun .ensures) (c .if1 .taken)
+returns c = begins-session _ (c .before .before .before .before .before .before .before .before .before .before .before .before .before .before .before .before .pre) _ (c .before .before .before .before .before .before .before .before .before .before .before .before .before .before .refusal-if .ensures) (c .before .before .before .before .before .before .before .before .before .before .before .before .event-at .ensures) (c .before .before .before .before .before .before .before .before .before .before .opened .ensures) (c .before .before .before .before .before .before .before .before .before .other-marks .ensures) (c .before .before .before .before .before .before .before .before .answered .ensures) (c .before .before .before .before .before .before .has-shown-row .ensures) (c .before .before .before .before .before .any-listened .ensures) (c .before .before .before .any-polled .ensures) (c .before .begun .ensures) (c .if1 .taken)
 
 returns-2 : tie.Need-returns-2
-returns-2 c =
-    let a = c .before .before .before .before .before .before .before .before in
-    let n = a .before in
-    let k = n .before in
-    let w = k .before .before in
-    let r = w .before .before in
-    refuses-profile _ (r .before .before .pre) _ (r .refusal-if .ensures) (w .called .ensures) (k .listed .ensures) (n .other-marks .ensures) (a .answered .ensures)
-    (c .if1 .left)
+returns-2 c = refuses-profile _ (c .before .before .before .before .before .before .before .before .before .before .before .before .before .before .before .before .pre) _ (c .before .before .before .before .before .before .before .before .before .before .before .before .before .before .refusal-if .ensures) (c .before .before .before .before .before .before .before .before .before .before .before .before .event-at .ensures) (c .before .before .before .before .before .before .before .before .before .before .opened .ensures) (c .before .before .before .before .before .before .before .before .before .other-marks .ensures) (c .before .before .before .before .before .before .before .before .answered .ensures) (c .if1 .left)
 
 pub profile-spec : {M : Type 1} → statement M
 profile-spec =
@@ -67,8 +48,8 @@ profile-spec =
     (tie.spec
     refusal-if-requires
     array-read-whom
-    called-requires
-    listed-requires
+    event-at-requires
+    opened-requires
     other-marks-requires
     answered-requires
     has-shown-row-requires

@@ -1,28 +1,21 @@
--- `settled`: refused where a command is outstanding; those called are registered no longer.
+-- `settled`: refused where a command is outstanding or a round open, else a round is opened.
 -- Assumes nothing.
+use Rattle.card.proofs.Arrival.{settles}
 use borrow.Author.Needs.{needs}
-use Rattle.card.proofs.Order.{count-small}
-use Rattle.card.proofs.Settled.{settles}
 use Rattle.card.proofs.Card.settled.Statement.{statement}
 use Rattle.card.proofs.Card.settled.Tie as tie
 
-refusal-if-requires : tie.Need-refusal-if-requires
-refusal-if-requires c κs = search needs
+settled-refusal-requires : tie.Need-settled-refusal-requires
+settled-refusal-requires c κs = search needs
 
 array-read-whom : tie.Need-array-read-whom
 array-read-whom c = search needs
 
-called-requires : tie.Need-called-requires
-called-requires c κs = search needs
+event-at-requires : tie.Need-event-at-requires
+event-at-requires c κs = search needs
 
-without-requires : tie.Need-without-requires
-without-requires c κs = search needs
-
-array-write-registered : tie.Need-array-write-registered
-array-write-registered c = search needs
-
-listed-requires : tie.Need-listed-requires
-listed-requires c κs = count-small _ (c .before .before .before .before .before .pre)
+opened-requires : tie.Need-opened-requires
+opened-requires c κs = search needs
 
 other-marks-requires : tie.Need-other-marks-requires
 other-marks-requires c κs = search needs
@@ -31,24 +24,16 @@ answered-requires : tie.Need-answered-requires
 answered-requires c κs = search needs
 
 returns : tie.Need-returns
-returns c =
-    let n = c .before in
-    let k = n .before in
-    let o = k .before .before in
-    let w = o .before in
-    let r = w .before .before in
-    settles _ (r .before .pre) (r .refusal-if .ensures) (w .called .ensures) (o .without .ensures) (k .listed .ensures) (n .other-marks .ensures) (c .answered .ensures)
+returns c = settles _ (c .before .before .before .before .before .before .before .pre) (c .before .before .before .before .before .before .settled-refusal .ensures) (c .before .before .before .before .event-at .ensures) (c .before .before .opened .ensures) (c .before .other-marks .ensures) (c .answered .ensures)
 
 pub settled-spec : {M : Type 1} → statement M
 settled-spec =
     tie.close
     (tie.spec
-    refusal-if-requires
+    settled-refusal-requires
     array-read-whom
-    called-requires
-    without-requires
-    array-write-registered
-    listed-requires
+    event-at-requires
+    opened-requires
     other-marks-requires
     answered-requires
     returns)

@@ -23,16 +23,20 @@ no-rows-requires c κs = search needs
 held-title-requires : tie.Need-held-title-requires
 held-title-requires c κs = search needs
 
-cast-t10 : tie.Need-cast-t10
-cast-t10 c = search needs
+cast-t11 : tie.Need-cast-t11
+cast-t11 c = search needs
+
+no-round-requires : tie.Need-no-round-requires
+no-round-requires c κs = search needs
 
 returns : tie.Need-returns
 returns c =
-    let rows = c .before in
+    let held = c .before in
+    let rows = held .before in
     let roll = rows .before in
     let title = now (roll .before .before .args .title) in
-    fresh-is title (roll .no-roll .ensures) (rows .no-rows .ensures) (c .held-title .ensures ∙ ap (padded 20 0) (take-all 20 title (roll .before .before .pre)))
+    fresh-is title (roll .no-roll .ensures) (rows .no-rows .ensures) (held .held-title .ensures ∙ ap (padded 20 0) (take-all 20 title (roll .before .before .pre))) (c .no-round .ensures)
 
 pub made-spec : {M : Type 1} → statement M
 made-spec =
-    tie.close (tie.spec no-roll-requires no-rows-requires held-title-requires cast-t10 returns)
+    tie.close (tie.spec no-roll-requires no-rows-requires held-title-requires cast-t11 no-round-requires returns)

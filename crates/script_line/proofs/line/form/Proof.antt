@@ -61,7 +61,11 @@ returns-13 c = search (by-number formOf, needs)
 
 returns-14 : tie.Need-returns-14
 unfolding formOf
-returns-14 c = search (picks, needs) depth 24
+returns-14 c = search (by-number formOf, needs)
+
+returns-15 : tie.Need-returns-15
+unfolding formOf
+returns-15 c = search (picks, needs) depth 24
 
 pub form-spec : {M : Type 1} → statement M
 form-spec =
@@ -80,4 +84,5 @@ form-spec =
     returns-11
     returns-12
     returns-13
-    returns-14)
+    returns-14
+    returns-15)

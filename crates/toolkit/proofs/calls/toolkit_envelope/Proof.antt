@@ -4,18 +4,17 @@ use mathlib.Core.Path.{refl}
 use mathlib.Core.List.{[], _∷_}
 use denote.Ref.{now}
 use Rattle.rules.specs.Calls.{arrival, envelope}
-use Rattle.card.proofs.Envelope.{envelope-stays}
 use Rattle.card.proofs.Card.envelope.Symbol as g
 use Rattle.card.proofs.Card.envelope.Met as g-thm
 use Rattle.lent_calls.proofs.Walk.{LentCall, opened}
 use Rattle.toolkit.proofs.Params.{bytes}
-use Rattle.toolkit.proofs.Doors.{window}
+use Rattle.toolkit.proofs.Doors.{door}
 use Rattle.toolkit.proofs.calls.toolkit_envelope.Key.{name as #f}
 use Rattle.toolkit.proofs.calls.toolkit_envelope.Statement as stated
 use Rattle.toolkit.proofs.calls.toolkit_envelope.Code as code
 
 abbrev at-card : LentCall
-at-card = window 1 (bytes ∷ []) g.name (λ x. arrival (envelope (now (x .0)))) (λ x f. refl) (λ h left x. envelope-stays h left _)
+at-card = door 1 (bytes ∷ []) g.name (λ x. arrival (envelope (now (x .0)))) (λ x f. refl)
 
 pub toolkit-envelope-spec : {M : Type 1} → stated.statement M
 unfolding code.routine

@@ -2,7 +2,7 @@
 -- Assumes nothing.
 use mathlib.Core.Path.{refl}
 use mathlib.Core.List.{[]}
-use Rattle.rules.specs.Calls.{settled}
+use Rattle.rules.specs.Calls.{arrival, settled}
 use Rattle.card.proofs.Card.settled.Symbol as g
 use Rattle.card.proofs.Card.settled.Met as g-thm
 use Rattle.lent_calls.proofs.Walk.{LentCall, opened}
@@ -12,7 +12,7 @@ use Rattle.toolkit.proofs.calls.toolkit_settled.Statement as stated
 use Rattle.toolkit.proofs.calls.toolkit_settled.Code as code
 
 abbrev at-card : LentCall
-at-card = door 0 ([]) g.name (λ x. settled) (λ x f. refl)
+at-card = door 0 ([]) g.name (λ x. arrival settled) (λ x f. refl)
 
 pub toolkit-settled-spec : {M : Type 1} → stated.statement M
 unfolding code.routine

@@ -3,17 +3,16 @@
 use mathlib.Core.Path.{refl}
 use mathlib.Core.List.{[]}
 use Rattle.rules.specs.Calls.{arrival, status}
-use Rattle.card.proofs.Status.{status-stays}
 use Rattle.card.proofs.Card.status.Symbol as g
 use Rattle.card.proofs.Card.status.Met as g-thm
 use Rattle.lent_calls.proofs.Walk.{LentCall, opened}
-use Rattle.toolkit.proofs.Doors.{window}
+use Rattle.toolkit.proofs.Doors.{door}
 use Rattle.toolkit.proofs.calls.toolkit_status.Key.{name as #f}
 use Rattle.toolkit.proofs.calls.toolkit_status.Statement as stated
 use Rattle.toolkit.proofs.calls.toolkit_status.Code as code
 
 abbrev at-card : LentCall
-at-card = window 0 ([]) g.name (λ x. arrival status) (λ x f. refl) (λ h left x. status-stays h left)
+at-card = door 0 ([]) g.name (λ x. arrival status) (λ x f. refl)
 
 pub toolkit-status-spec : {M : Type 1} → stated.statement M
 unfolding code.routine

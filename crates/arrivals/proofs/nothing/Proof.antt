@@ -1,0 +1,13 @@
+-- `nothing` meets its contract.
+-- Assumes nothing.
+use mathlib.Core.Path.{refl}
+use Rattle.rules.specs.Held.{storedArrival}
+use Rattle.arrivals.proofs.nothing.Statement.{statement}
+use Rattle.arrivals.proofs.nothing.Tie as tie
+
+returns : tie.Need-returns
+unfolding storedArrival
+returns c = refl
+
+pub nothing-spec : {M : Type 1} → statement M
+nothing-spec = tie.close (tie.spec returns)

@@ -1,0 +1,21 @@
+-- `settled_refusal` meets its contract.
+-- Assumes nothing.
+use Rattle.lists.proofs.Picks.{picks}
+use Rattle.rules.specs.Refusals.{firstHolding}
+use borrow.Author.Needs.{needs}
+use Rattle.arrivals.proofs.settled_refusal.Statement.{statement}
+use Rattle.arrivals.proofs.settled_refusal.Tie as tie
+
+returns : tie.Need-returns
+unfolding firstHolding
+returns c = search (picks, needs) depth 8
+
+refusal-if-requires : tie.Need-refusal-if-requires
+refusal-if-requires c κs = search needs
+
+returns-2 : tie.Need-returns-2
+unfolding firstHolding
+returns-2 c = search (picks, needs) depth 8
+
+pub settled-refusal-spec : {M : Type 1} → statement M
+settled-refusal-spec = tie.close (tie.spec returns refusal-if-requires returns-2)
