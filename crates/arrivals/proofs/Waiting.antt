@@ -2,11 +2,11 @@
 -- Assumes nothing.
 use Prim.Native.Nat.{ℕ, _≤_}
 use native.Mathlib.Omega.{arith}
-use mathlib.Core.Path.{_≡_, refl, sym, ap, ap₂, _∙_}
+use mathlib.Core.Path.{_≡_, refl, sym, ap, _∙_}
 use mathlib.Core.Bool.{Bool, true, false, not, _&&_}
 use mathlib.Core.List.{List}
 use Rattle.lists.specs.Tests.{if_then_else_, _==_}
-use Rattle.lists.specs.Lists.{Every, some?, keep, in?}
+use Rattle.lists.specs.Lists.{Every, keep, in?}
 use Rattle.lists.specs.Tables.{table}
 use Rattle.lists.proofs.Truth.{and-true, and-false}
 use Rattle.lists.proofs.Alike.{keep-each}
@@ -21,7 +21,7 @@ use Rattle.rules.specs.Arrivals.{wants}
 use Rattle.rules.specs.Rounds.{opened}
 use Rattle.runs.specs.Sound.{SoundTables, SoundRound}
 use Rattle.runs.proofs.Looked.{has-its-number}
-use Rattle.applets.specs.ByNumber.{at, rollOf}
+use Rattle.applets.specs.ByNumber.{rollOf}
 use Rattle.applets.proofs.Numbers.{present-in}
 use Rattle.arrivals.specs.Whom.{IsFor}
 use Rattle.arrivals.specs.Rounds.{viewRound, storedRound}
@@ -30,11 +30,10 @@ use Rattle.arrivals.proofs.Rounds.{arrival-back}
 -- the numbers of applets are 1 to 8
 within : Every (λ n. (1 ≤ n) × (n ≤ 8)) (numbers document)
 unfolding Every table
-within =
-    (
-      (omega arith, omega arith),
-      ((omega arith, omega arith), ((omega arith, omega arith), ((omega arith, omega arith), ((omega arith, omega arith), ((omega arith, omega arith), ((omega arith, omega arith), ((omega arith, omega arith), tt))))))),
-    )
+within = (
+  (omega arith, omega arith),
+  ((omega arith, omega arith), ((omega arith, omega arith), ((omega arith, omega arith), ((omega arith, omega arith), ((omega arith, omega arith), ((omega arith, omega arith), ((omega arith, omega arith), tt))))))),
+)
 
 among : (k : ℕ) → 1 ≤ k → k ≤ 8 → in? k (numbers document) ≡ true
 among k low high = one-of (λ n. in? n (numbers document) ≡ true) (unfold sets.numbers table in each-in (numbers document)) k low high

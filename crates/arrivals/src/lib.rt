@@ -95,7 +95,13 @@ fn listeners(registered: [u8; Kind::EVENTS], control: u8, place: u8) -> u8
 }
 
 // Those whom an envelope is for, by what arrives with it.
-pub fn envelope_whom(a: Arrived, rows: Rows, registered: [u8; Kind::EVENTS], bank: Bank, control: u8) -> u8
+pub fn envelope_whom(
+    a: Arrived,
+    rows: Rows,
+    registered: [u8; Kind::EVENTS],
+    bank: Bank,
+    control: u8,
+) -> u8
     requires { ⌜ TidyRows rows ⌝ }
     ensures { λ r. ⌜ IsForEnvelope (viewRows rows) registered (bank .owner) control a r ⌝ }
 {

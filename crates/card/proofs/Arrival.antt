@@ -16,7 +16,7 @@ use Rattle.rules.specs.declared.Envelope.{Envelope}
 use Rattle.rules.specs.declared.Marks.{Marks}
 use Rattle.rules.specs.declared.Roll.{Roll}
 use Rattle.rules.specs.declared.Round as held
-use Rattle.rules.specs.Holds.{Tables, Desk, Model, status}
+use Rattle.rules.specs.Holds.{Desk, Model}
 use Rattle.rules.specs.Held.{viewRows, viewDesk, storedAnswer, storedArrival}
 use Rattle.rules.specs.Events.{handlerAvailable}
 use Rattle.rules.specs.Envelopes.{envelopeOf, badEnvelope}

@@ -24,3 +24,4 @@ pub mod Installs
 pub mod Arrival
 pub mod Profile
 pub mod Turn
+pub mod AfterTurn

@@ -2,3 +2,4 @@
 pub mod Bytes
 pub mod Says
 pub mod Contents
+pub mod Judged

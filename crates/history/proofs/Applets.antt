@@ -8,7 +8,7 @@ use lib.ListN.{take}
 use Rattle.lists.specs.Tests.{if_then_else_, _==_}
 use Rattle.lists.specs.Lists.{Every, some?, first, change}
 use Rattle.lists.proofs.Every.{every-so, every-keep, every-map}
-use Rattle.lists.proofs.Order.{every-changes, every-insert}
+use Rattle.lists.proofs.Order.{every-changes}
 use Rattle.lists.proofs.Ifs.{if-holds}
 use Rattle.lists.proofs.Owned.{every-there}
 use Rattle.lists.proofs.Times.{if-same, if-map}
@@ -18,11 +18,12 @@ use Rattle.rules.specs.declared.Kind.the-variants.{Event, Issuer, Reserved, Uns
 use Rattle.rules.specs.declared.Request.{Request}
 use Rattle.rules.specs.Holds.{Applet, Tables, Round, Model, withApplets, withControl, withEvent, withOneMore, withPoll}
 use Rattle.rules.specs.Events.{callControl, handlerAvailable, kindOf}
-use Rattle.rules.specs.Applets.{hasNumber, nobody, present, applet, newcomer, forget, register, withRegistration, secondsOf, inOrder}
+use Rattle.rules.specs.Applets.{hasNumber, nobody, present, applet, newcomer, forget, register, withRegistration, secondsOf}
 use Rattle.rules.specs.Calls.{event, entry, EventCall, setEvent, clearEvent, askEvent, requestPoll, EntryCall, newEntry, changeEntry, enableEntry, disableEntry}
 use Rattle.rules.specs.Rounds.{turns, named, bySettled, usedUp}
 use Rattle.rules.specs.Step.{eventTables, entryTables}
 use Rattle.rules.specs.Refusals.{eventLines, lines, refusal}
+use Rattle.rules.proofs.Listed.{every-inOrder}
 use Rattle.runs.proofs.Accepted.{accepted as none-holds}
 use Rattle.runs.proofs.Filled.{is-here, new-entry}
 use Rattle.history.proofs.Agree.{numberOf}
@@ -137,12 +138,6 @@ entry-numbers t (newEntry m help text) = keys-change numberOf nobody withOneMore
 entry-numbers t (changeEntry m i help text) = refl
 entry-numbers t (enableEntry m i) = refl
 entry-numbers t (disableEntry m i) = refl
-
--- what holds of each holds of each in order
-pub every-inOrder : (P : Applet → Type 0) (l : List Applet) → Every P l → Every P (inOrder l)
-unfolding inOrder Every
-every-inOrder P [] e = tt
-every-inOrder P (x ∷ l) e = every-insert P _ x (inOrder l) (e .0) (every-inOrder P l (e .1))
 
 -- Those whose turn is to come are there.
 pub turns-there : (t : Tables) (r : Round) → Every (λ n. present t n ≡ true) (turns t r)

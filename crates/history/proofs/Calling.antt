@@ -25,7 +25,7 @@ use Rattle.rules.specs.Timers.{ownerOf}
 use Rattle.rules.specs.Held.{noRow}
 use Rattle.rules.specs.Arrivals.{wants}
 use Rattle.rules.specs.Rounds.{turns}
-use Rattle.rules.proofs.Listed.{count-inOrder}
+use Rattle.rules.proofs.Listed.{count-inOrder, every-inOrder}
 use Rattle.runs.specs.Sound.{SoundTables, SoundRow, NobodyOrPresent}
 use Rattle.runs.proofs.Looked.{has-its-number, absent-nobody, number-from}
 use Rattle.history.specs.Histories.{History, stands}
@@ -33,7 +33,6 @@ use Rattle.history.specs.Deeds.{installs}
 use Rattle.history.specs.Named.{isSelectable, isRegistered, priorityOf, isLater, rowsNamed}
 use Rattle.history.specs.Called.{isChosen, isHelped, isNamed, isCallable, arrived, waits, isDue, isBefore, Names, nobody as none-due, first}
 use Rattle.history.proofs.Agree.{numberOf, AgreeTables, AgreeRound}
-use Rattle.history.proofs.Applets.{every-inOrder}
 use Rattle.history.proofs.Present.{Ranked}
 
 -- EACH THAT PASSES, once, in order, and no other.

@@ -1,46 +1,40 @@
--- A call more after any calls, on the card in its one form: judged, answered, ordered and shown as specs/Promised.antt says. Assumes nothing.
-use Prim.Native.Nat.{ℕ, _-_, _≤_, _<_}
-use native.Mathlib.Omega.{arith}
+-- A call more after any calls, on the card in its one form: judged, ordered and shown as specs/Promised.antt says. Assumes nothing.
+use Prim.Native.Nat.{ℕ, zero, suc, _-_, _≤_, _<_}
 use mathlib.Core.Path.{_≡_, refl, sym, ap, ap₂, subst, _∙_}
 use mathlib.Core.Logic.{_⊎_, inl, inr}
 use mathlib.Core.Bool.{Bool, false, not}
 use mathlib.Core.List.{List, [], _∷_, _++_}
-use lib.ListN.{length, take, drop, getD}
-use Rattle.lists.specs.Tests.{if_then_else_, _==_}
-use Rattle.lists.specs.Lists.{keep, times}
-use Rattle.sets.specs.Sets.{has?}
+use lib.ListN.{length, take, drop}
+use Rattle.lists.specs.Tests.{_==_}
+use Rattle.lists.specs.Lists.{keep}
 use Rattle.rules.specs.Holds.{Row, Model, document}
 use Rattle.rules.specs.Held.{viewRows, storedDesk}
-use Rattle.rules.specs.Events.{handlerAvailable}
 use Rattle.rules.specs.Applets.{applet}
 use Rattle.rules.specs.Envelopes.{envelopeOf}
 use Rattle.rules.specs.Rows.{nextPair}
 use Rattle.rules.specs.Commands.{Menu, menuOf}
-use Rattle.rules.specs.Arrivals.{Arrival, envelopeMarks, otherMarks}
-use Rattle.rules.specs.Calls.{Call, Answer, Outcome, entry, arrival, status, settled, systemCommand, newEntry}
+use Rattle.rules.specs.Arrivals.{noMarks, envelopeMarks, otherMarks}
+use Rattle.rules.specs.Calls.{Call, Answer, Outcome, entry, arrival, next, status, systemCommand, newEntry}
 use Rattle.rules.specs.Desk.{Matter, menu, eventList, pollInterval, pollingOff, dueCommand, withProfile}
+use Rattle.rules.specs.Refusals.{refusal}
 use Rattle.rules.specs.Step.{arrivalAnswer, arrivalDesk, answer, written, front, outcome, step}
 use Rattle.rules.specs.Beside.{ReadOutcome, menuReader}
 use Rattle.rules.specs.Runs.{cardAfter}
 use Rattle.rules.proofs.OnRefusal.{refused}
 use Rattle.card.specs.declared.Card.{Card}
-use Rattle.card.specs.View.{stored}
+use Rattle.card.specs.View.{stored, Left}
 use Rattle.card.proofs.Left.{after-seen}
-use Rattle.history.specs.Named.{isSelectable, hasOneShot}
-use Rattle.history.specs.Called.{isNamed, isDue, arrivalIn}
 use Rattle.history.specs.Handed.{Seen, seen, seenOf, handed, titleOf, isShown, intervalNamed}
 use Rattle.history.specs.OnScreen.{wanted, OfPolling, command, ScreenRight}
 use Rattle.history.proofs.Answered.{passes, answers, refuses, status-is-taken}
-use Rattle.history.proofs.OneShot.{Each, waits, only-settled-arrives-so}
 use Rattle.history.proofs.Promises as runs
 use Rattle.history.proofs.HandOuts.{handed-due}
 use Rattle.history.proofs.Screen.{screen-is-right}
 use Rattle.history.proofs.MenuOrder.{AlwaysInUse, rows-keep-their-order, new-row-at-its-place, new-row-last-for-0, new-row-last-behind-all}
-use Rattle.promises.specs.Watched.{calledBy}
-use Rattle.promises.specs.Promised.{Judged, Handlers, Answers, positionOf, newRow, Orders, HandsOut, Shows}
+use Rattle.promises.specs.Promised.{Judged, Handlers, positionOf, newRow, Orders, HandsOut, Shows}
 use Rattle.promises.proofs.SameRuns.{next-says}
 use Rattle.promises.proofs.DemandOne.{answer-is-the-lowest}
-use Rattle.promises.proofs.TablesNamed.{m, h, c, rows-are, holds}
+use Rattle.promises.proofs.TablesNamed.{m, h, c, rows-are}
 
 -- what the menu reader answers with a menu
 abbrev readAs : Menu → ReadOutcome
@@ -53,10 +47,10 @@ front-so v buffer ok = ap (λ (n : ℕ). outcome n v (systemCommand buffer) .buf
 
 -- a call more after these, as it is seen
 module _ (title : List ℕ) (calls : List Call) (x : Call) where
-  abbrev s : Seen
+  abbrev pub s : Seen
   s = seen x (step (m title calls) x)
 
-  abbrev k : Card
+  abbrev pub k : Card
   k = stored (step (m title calls) x .after)
 
   -- DEMAND 1
@@ -70,69 +64,38 @@ module _ (title : List ℕ) (calls : List Call) (x : Call) where
             let o = refused (m title calls) x n (refuses (m title calls) x n e) in
             (ap stored (runs.refused-call-leaves-the-card title calls x n e), ap (λ (o : Outcome). o .buffer) o, ap (λ (o : Outcome). o .answer) o);
         no-second = λ t j n e. (
-          next-says n .seen ∙ ap₂ (λ (v : Model) (y : Call). seen y (step v y)) (after-seen title calls) e,
-          next-says n .card ∙ ap₂ (λ (v : Model) (y : Call). stored (step v y .after)) (after-seen title calls) e,
+          next-says left n .seen ∙ ap₂ (λ (v : Model) (y : Call). seen y (step v y)) (after-seen title calls) e,
+          next-says left n .card ∙ ap₂ (λ (v : Model) (y : Call). stored (step v y .after)) (after-seen title calls) e,
         );
       }
+    where
+      left : Left (c title calls)
+      left = record { title = title; calls = calls; is = refl }
 
   -- what is told of another name of the call
-  named-so : {y : Call} → x ≡ y → step (m title calls) x .answer .refusal ≡ 0 → step (m title calls) y .answer .refusal ≡ 0
+  pub named-so : {y : Call} → x ≡ y → step (m title calls) x .answer .refusal ≡ 0 → step (m title calls) y .answer .refusal ≡ 0
   named-so e ok = ap (λ (y : Call). step (m title calls) y .answer .refusal) (sym e) ∙ ok
-
-  heard : step (m title calls) x .answer .refusal ≡ 0 → (n : ℕ) (a : Arrival) → arrivalIn x ≡ a → times n (calledBy s) ≡ (if isDue (h title calls) a n then 1 else 0)
-  heard ok n a e = runs.event-names-each-once-in-order title calls x ok .once n ∙ ap (λ (a : Arrival). if isDue (h title calls) a n then 1 else 0) e
 
   -- a STATUS is never refused
   status-taken : x ≡ arrival status → step (m title calls) x .answer .refusal ≡ 0
   status-taken e = ap (λ (y : Call). step (m title calls) y .answer .refusal) e ∙ status-is-taken (m title calls)
 
-  -- the one-shot by the sets, now and after the call
-  now : (n : ℕ) → has? (getD (c title calls .registered) handlerAvailable 0) n ≡ hasOneShot n (h title calls)
-  unfolding hasOneShot
-  now n = holds title calls .registered n handlerAvailable (omega arith) refl
-
-  then-on : (n : ℕ) → has? (getD (k .registered) handlerAvailable 0) n ≡ hasOneShot n (h title (x ∷ calls))
-  unfolding hasOneShot cardAfter
-  then-on n = holds title (x ∷ calls) .registered n handlerAvailable (omega arith) refl
-
-  used : (n : ℕ) → x ≡ settled → step (m title calls) x .answer .refusal ≡ 0
-      → hasOneShot n (h title (x ∷ calls)) ≡ (if isSelectable n (h title calls) then false else hasOneShot n (h title calls))
-  used n e ok =
-      ap (λ (y : Call). hasOneShot n (h title (y ∷ calls))) e ∙ runs.one-shot-is-used-up title calls n (named-so e ok)
-
-  -- DEMAND 3, the calls
-  pub answers-so : Answers (h title calls) (c title calls) s k
-  unfolding isDue isNamed arrivalIn hasOneShot Each
-  answers-so =
-      record {
-        called = runs.event-names-each-once-in-order title calls x;
-        one-list = runs.no-second-list title calls x;
-        as-many = runs.as-many-as-are-due title calls x;
-        choice-counts = λ i n ok e. heard ok n _ e;
-        help-counts = λ i n ok e. heard ok n _ e;
-        expiry-counts = λ t n ok e. heard ok n _ e;
-        status-counts = λ n e. heard (status-taken e) n _ (ap arrivalIn e);
-        only-settled = only-settled-arrives-so x;
-        fires = λ n ok e. heard ok n _ (ap arrivalIn e);
-        used-up = λ n ok e. then-on n ∙ used n e ok ∙ sym (ap₂ (λ (a b : Bool). if a then false else b) (holds title calls .selectable n) (now n));
-        lasts = λ n f has.
-            then-on n
-            ∙ waits title n (x ∷ []) calls ((λ ok. (f ok .0, f ok .1, λ e. sym (holds title calls .selectable n) ∙ f ok .2 e)), tt) (sym (now n) ∙ has);
-        tells = λ n e v ok q kind.
-            ap (λ (y : Call). step (m title calls) y .answer .says) q ∙ runs.asking-tells-what-is-named title calls n e v kind (named-so q ok);
-      }
-
   -- DEMAND 2, the handlers
   pub handlers : Handlers (h title calls) s
-  unfolding answer arrivalAnswer arrivalDesk withProfile
+  unfolding answer arrivalAnswer arrivalDesk withProfile step outcome
   handlers =
       record {
         envelope-marks = λ bytes ok e. marks-are ok e ∙ ap (λ (b : Bool). envelopeMarks b (envelopeOf bytes)) (runs.outstanding-is-named title calls);
         profile-marks = λ bytes ok e. marks-are ok e;
         settled-marks = λ ok e. marks-are ok e ∙ ap otherMarks (runs.outstanding-is-named title calls);
         status-marks = λ e. (status-taken e, marks-are (status-taken e) e ∙ ap otherMarks (runs.outstanding-is-named title calls));
+        next-marks = λ e. ap (λ (y : Call). step (m title calls) y .answer .marks) e ∙ none-marked (refusal (m title calls) next);
       }
     where
+      none-marked : (n : ℕ) → outcome n (m title calls) next .answer .marks ≡ noMarks
+      none-marked zero = refl
+      none-marked (suc n) = refl
+
       marks-are : {y : Call} → step (m title calls) x .answer .refusal ≡ 0 → x ≡ y → s .entry .answer .marks ≡ answer (m title calls) y .marks
       marks-are ok e =
           ap (λ (a : Answer). a .marks) (answers (m title calls) x (passes (m title calls) x ok)) ∙ ap (λ (y : Call). answer (m title calls) y .marks) e

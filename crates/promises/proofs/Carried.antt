@@ -6,16 +6,17 @@ use mathlib.Core.List.{List}
 use Rattle.rules.specs.Holds.{Model}
 use Rattle.rules.specs.Calls.{Call}
 use Rattle.rules.specs.Step.{step}
-use Rattle.rules.specs.Runs.{cardAfter}
 use Rattle.card.specs.declared.Card.{Card}
 use Rattle.card.specs.View.{view, stored}
 use Rattle.history.specs.Histories.{History, accepted}
 use Rattle.history.specs.Handed.{Seen, seen}
 use Rattle.promises.specs.Watched.{entriesOf, callsOf, Next, Watched, callOf}
-use Rattle.promises.specs.Promised.{Judged, Holds, Answers}
-use Rattle.promises.proofs.SameRuns.{next-says, same-view, watched-same, past-is}
+use Rattle.promises.specs.Turns.{Answers}
+use Rattle.promises.specs.Promised.{Judged, Holds}
+use Rattle.promises.proofs.SameRuns.{next-says, same-view, watched-same, watched-left, past-is}
 use Rattle.promises.proofs.TablesNamed.{m, h, holds}
-use Rattle.promises.proofs.CallsNamed.{judged, answers-so}
+use Rattle.promises.proofs.CallsNamed.{judged}
+use Rattle.promises.proofs.TurnsNamed.{answers-so}
 
 -- a card that the public functions have left
 module _ {title : List ℕ} {l : List Seen} {c : Card} (w : Watched title l c) where
@@ -32,9 +33,10 @@ module _ {title : List ℕ} {l : List Seen} {c : Card} (w : Watched title l c) w
       → (t : Seen) (j : Card) → Next c t j → P past c t j
   of-call P p t j n =
       let x = callOf t in
+      let said = next-says (watched-left w) n in
       let v : view c ≡ m title (callsOf l) = same-view (watched-same w) in
-      let as-seen : t ≡ seen x (step (m title (callsOf l)) x) = next-says n .seen ∙ ap (λ (v : Model). seen x (step v x)) v in
-      let as-left : j ≡ stored (step (m title (callsOf l)) x .after) = next-says n .card ∙ ap (λ (v : Model). stored (step v x .after)) v in
+      let as-seen : t ≡ seen x (step (m title (callsOf l)) x) = said .seen ∙ ap (λ (v : Model). seen x (step v x)) v in
+      let as-left : j ≡ stored (step (m title (callsOf l)) x .after) = said .card ∙ ap (λ (v : Model). stored (step v x .after)) v in
       subst (λ (t : Seen). P past c t j) (sym as-seen)
       (subst (λ (j : Card). P past c (seen x (step (m title (callsOf l)) x)) j) (sym as-left)
       (of-card (λ (g : History) (d : Card). P g d (seen x (step (m title (callsOf l)) x)) (stored (step (m title (callsOf l)) x .after))) (p x)))

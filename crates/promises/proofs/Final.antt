@@ -13,25 +13,22 @@ use Rattle.card.specs.View.{view}
 use Rattle.card.specs.Replies.{replied}
 use Rattle.history.specs.Handed.{Seen, seen}
 use Rattle.history.specs.OnScreen.{handOuts}
-use Rattle.promises.specs.Watched.{callsOf, call, Next, Watched, more, callOf}
+use Rattle.promises.specs.Watched.{callsOf, call, Watched, more}
 use Rattle.promises.specs.Promised.{Taken, Handlers, positionOf, Orders, HandedOut, none, then, Shows, OnScreen, Promised}
-use Rattle.promises.proofs.SameRuns.{same-view, watched-left, watched-same}
+use Rattle.promises.proofs.SameRuns.{next-view, watched-left}
 use Rattle.promises.proofs.OnScreen as watched
 use Rattle.promises.proofs.TablesNamed.{holds}
 use Rattle.promises.proofs.CallsNamed.{handlers, judged, orders, shows}
 use Rattle.promises.proofs.Carried.{of-call, holds-of-it, judged-of-it, answers-of-it}
 use Rattle.promises.proofs.FiringOnce.{fires-once}
+use Rattle.promises.proofs.OldNames.{old-list}
 use Rattle.promises.proofs.Documented.{room, already}
 
 -- DEMAND 1, every call is taken, whatever its inputs
 taken : (c : Card) (x : Call) → Taken c x
 taken c x = record { seen = _; card = _; next = call x (replied (step (view c) x)) (step (view c) x .buffer) refl refl; call = refl }
 
--- the card after a call, and after hand-outs, as the rules have it
-next-view : {title : List ℕ} {l : List Seen} {c k : Card} {s : Seen} → Watched title l c → Next c s k → view k ≡ step (view c) (callOf s) .after
-unfolding cardAfter
-next-view {s = s} w n = same-view (watched-same (more n w)) ∙ sym (ap (λ (v : Model). step v (callOf s) .after) (same-view (watched-same w)))
-
+-- the card after hand-outs, as the rules have it
 handed-view : {title : List ℕ} {l : List Seen} {c k : Card} {buffers : List (List ℕ)} → Watched title l c → HandedOut c buffers k → view k ≡ handOuts buffers (view c)
 unfolding handOuts
 handed-view w none = refl
@@ -69,7 +66,8 @@ module _ {title : List ℕ} {l : List Seen} {c : Card} (w : Watched title l c) w
         shows = of-call w (Shows title) (shows title (callsOf l));
         holds = holds-of-it w;
         answers = answers-of-it w;
-        one-shots = λ n later moment stretch setting before e. fires-once title n later moment stretch setting before (subst (λ (k : List Seen). Watched title k c) e w);
+        old-list = old-list w;
+        one-shots = λ n later turn stretch setting before e. fires-once title n later turn stretch setting before (subst (λ (k : List Seen). Watched title k c) e w);
         screen = on-screen;
         room = room w;
         already = already w;

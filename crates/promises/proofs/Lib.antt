@@ -6,8 +6,10 @@ pub mod SameRuns
 pub mod OnScreen
 pub mod TablesNamed
 pub mod CallsNamed
+pub mod TurnsNamed
 pub mod Carried
 pub mod FiringOnce
+pub mod OldNames
 pub mod Documented
 pub mod Final
 pub mod Through

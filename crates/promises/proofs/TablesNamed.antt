@@ -6,14 +6,17 @@ use mathlib.Core.Bool.{Bool, true, false}
 use mathlib.Core.List.{List}
 use mathlib.Core.Logic.{_⊎_, inl, inr}
 use lib.ListN.{length, getD}
-use Rattle.lists.specs.Lists.{keep}
+use borrow.Author.Tests.{ne-eqb}
+use Rattle.lists.specs.Tests.{_==_}
+use Rattle.lists.specs.Lists.{some?, keep, in?}
 use Rattle.lists.specs.Tables.{table}
 use Rattle.lists.proofs.Tables.{table-at}
+use Rattle.lists.proofs.Chosen.{in-keep}
 use Rattle.sets.specs.Sets.{has?, isNumber, setOf}
 use Rattle.sets.proofs.Bits.{is-number, no-number, has-set, has-none}
-use Rattle.rules.specs.Holds.{Row, Applet, Model, document}
+use Rattle.rules.specs.Holds.{Row, Applet, Bounds, Model, document}
 use Rattle.rules.specs.Held.{viewRows, storedRows, viewDesk, storedDesk}
-use Rattle.rules.specs.Applets.{nobody, present, applet}
+use Rattle.rules.specs.Applets.{nobody, numbers, present, applet}
 use Rattle.rules.specs.Commands.{shownMenu, menuOf, menuBytes}
 use Rattle.rules.specs.Calls.{Call}
 use Rattle.rules.specs.Runs.{cardAfter}
@@ -21,13 +24,17 @@ use Rattle.rules.proofs.Held.{rows-back, desk-back}
 use Rattle.runs.proofs.Looked.{absent-nobody}
 use Rattle.applets.specs.ByNumber.{at, rollOf, selectableSet, registeredSet, pollTable}
 use Rattle.applets.proofs.Numbers.{present-in, by-any}
+use Rattle.arrivals.specs.Rounds.{storedRound}
+use Rattle.arrivals.proofs.Rounds.{arrival-back}
 use Rattle.card.specs.declared.Card.{Card}
 use Rattle.card.specs.View.{stored}
 use Rattle.history.specs.Histories.{History}
+use Rattle.history.specs.Called.{isOpen}
 use Rattle.history.specs.OnScreen.{wanted}
 use Rattle.history.specs.Handed.{titleOf, isShown}
 use Rattle.history.proofs.Agrees.{ground}
 use Rattle.history.proofs.Promises as runs
+use Rattle.history.proofs.Turns.{round-is-open-as-named}
 use Rattle.history.proofs.DeskNamed.{title-is-the-one-given, profile-is-the-last-one}
 use Rattle.history.proofs.Shown.{rows-shown}
 use Rattle.promises.specs.Promised.{Holds}
@@ -44,6 +51,16 @@ in-set p n outside = go (isNumber n) refl
 nobody-registered : (e : ℕ) → e < 20 → getD (nobody .events) e false ≡ false
 unfolding table
 nobody-registered e h = table-at 20 (λ i. false) e false h
+
+-- no such number is among those of applets
+none-of : (n : ℕ) → (n ≡ 0) ⊎ (8 < n) → in? n (numbers document) ≡ false
+unfolding table in? some?
+none-of n (inl z) = rw z refl
+none-of n (inr g) =
+    rw (far 1 (omega arith), far 2 (omega arith), far 3 (omega arith), far 4 (omega arith), far 5 (omega arith), far 6 (omega arith), far 7 (omega arith), far 8 (omega arith)) refl
+  where
+    far : (k : ℕ) → k ≤ 8 → (k == n) ≡ false
+    far k i = ne-eqb k n (λ e. omega arith)
 
 -- after these calls, the card in its one form
 module _ (title : List ℕ) (calls : List Call) where
@@ -69,6 +86,14 @@ module _ (title : List ℕ) (calls : List Call) where
       go true q = absurd (none (no-number n o) q)
       go false q = absent-nobody (m .tables) n q
 
+  -- and none waits in the round
+  outside-round : (n : ℕ) → isNumber n ≡ false → in? n (m .round .waiting) ≡ false
+  outside-round n o =
+      let g = ground title calls in
+      ap (in? n) (subst (λ (b : Bounds). m .round .waiting ≡ keep (λ k. in? k (m .round .waiting)) (numbers b)) (g .bounds) (g .sound .round .waiting))
+      ∙ in-keep (λ k. in? k (m .round .waiting)) n (numbers document)
+      ∙ rw (none-of n (no-number n o)) refl
+
   pub rows-are : viewRows (c .rows) ≡ m .tables .rows
   unfolding stored
   rows-are = rows-back (m .tables .rows)
@@ -80,7 +105,7 @@ module _ (title : List ℕ) (calls : List Call) where
 
   -- DEMAND 3, the tables
   pub holds : Holds title h c
-  unfolding stored storedRows storedDesk rollOf selectableSet registeredSet pollTable viewDesk applet
+  unfolding stored storedRows storedDesk storedRound rollOf selectableSet registeredSet pollTable viewDesk applet
   holds =
       record {
         rows = λ p. rw rows-are (runs.menu-list-holds-what-is-named title calls p);
@@ -107,7 +132,13 @@ module _ (title : List ℕ) (calls : List Call) where
         profile = profile-is-the-last-one title calls;
         session = runs.session-is-named title calls;
         outstanding = runs.outstanding-is-named title calls;
+        round-open = round-is-open-as-named title calls;
+        arrived-so = λ o. arrival-back (m .round .arrived) ∙ runs.agree title calls .round .arrival (is-open o);
+        waiting = λ o n from. in-set (λ k. in? k (m .round .waiting)) n (outside-round n) ∙ runs.agree title calls .round .waiting (is-open o) n from;
       }
     where
+      is-open : isOpen h ≡ true → m .round .isOpen ≡ true
+      is-open o = round-is-open-as-named title calls ∙ o
+
       fits-as : length (menuBytes (menuOf (titleOf title) (shownMenu (m .tables)))) ≤ 250
       fits-as = subst (λ (t : List ℕ). length (menuBytes (menuOf t (shownMenu (m .tables)))) ≤ 250) (title-is-the-one-given title calls) (runs.menu-command-fits title calls)

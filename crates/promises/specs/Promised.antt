@@ -7,36 +7,34 @@ use mathlib.Core.Logic.{_⊎_}
 use mathlib.Core.Bool.{Bool, true, false, not, _&&_}
 use mathlib.Core.List.{List, [], _∷_, _++_, map}
 use lib.ListN.{length, take, drop, getD}
-use lib.IntN.{ℤ}
-use Rattle.lists.specs.Tests.{if_then_else_, _==_}
-use Rattle.lists.specs.Lists.{Every, some?, keep, count, times, first}
+use Rattle.lists.specs.Tests.{_==_}
+use Rattle.lists.specs.Lists.{Every, some?, keep, count, first}
 use Rattle.sets.specs.Sets.{has?}
-use Rattle.rules.specs.declared.Kind.the-variants.{Event}
 use Rattle.rules.specs.Holds.{Row, document, nothingDue}
-use Rattle.rules.specs.Held.{viewRows}
-use Rattle.rules.specs.Events.{callControl, handlerAvailable, kindOf}
+use Rattle.rules.specs.Held.{viewRows, viewArrival}
+use Rattle.rules.specs.Events.{callControl}
 use Rattle.rules.specs.Applets.{applet}
 use Rattle.rules.specs.Rows.{hasIdentifier, inUse, nextPair}
 use Rattle.rules.specs.Timers.{ownerOf}
 use Rattle.rules.specs.Envelopes.{envelopeOf}
-use Rattle.rules.specs.Arrivals.{choice, help as helpOn, expiry, settledArrival, envelopeMarks, otherMarks}
+use Rattle.rules.specs.Arrivals.{noMarks, envelopeMarks, otherMarks}
 use Rattle.rules.specs.Commands.{menuOf, isMenu}
 use Rattle.rules.specs.Desk as desk
 use Rattle.rules.specs.Desk.{dueMatters}
-use Rattle.rules.specs.Calls.{Call, refusedWith, event, entry, arrival, settled, proactive, systemCommand, askEvent, newEntry, envelope, profile, status, send, response}
+use Rattle.rules.specs.Calls.{Call, ArrivalCall, refusedWith, entry, arrival, next, proactive, systemCommand, newEntry, envelope, profile, status, settled, send, response}
 use Rattle.rules.specs.Refusals.{Line, lines}
 use Rattle.rules.specs.Step.{lent, front}
 use Rattle.rules.specs.Beside.{menuReader}
 use Rattle.card.specs.declared.Card.{Card}
 use Rattle.card.specs.View.{view, Left}
 use Rattle.history.specs.Histories.{History, accepted}
-use Rattle.history.specs.Deeds.{clears, deletes}
-use Rattle.history.specs.Named.{isPresent, isSelectable, isRegistered, ownsTimer, pollOf, hasOneShot, ownsControl, oneToEight, timerOwner, controlOwner, rowsNamed, inSession, isOutstanding, profileNamed}
-use Rattle.history.specs.Called.{isChosen, isHelped, isDue, Calls, arrivalIn}
+use Rattle.history.specs.Named.{isPresent, isSelectable, isRegistered, ownsTimer, pollOf, ownsControl, oneToEight, timerOwner, controlOwner, rowsNamed, inSession, isOutstanding, profileNamed}
+use Rattle.history.specs.Called.{arrived, isOpen, waits}
 use Rattle.history.specs.Handed.{Seen, titleOf, handed, handedSince, isEventList, codesHanded, isPolling, lastPolling, isShown, codesNamed, intervalNamed, pollingNamed}
 use Rattle.history.specs.OnScreen.{wanted, OfPolling, leftDue, MenuRight}
-use Rattle.promises.specs.Watched.{entriesOf, callOf, refusalOf, calledBy, Next}
-use Rattle.promises.specs.OneShots.{SetAndSettled, FiresOnce}
+use Rattle.promises.specs.Watched.{entriesOf, callOf, refusalOf, Next}
+use Rattle.promises.specs.Turns.{Answers, NamesTheOldList}
+use Rattle.promises.specs.OneShots.{SetAndTurned, FiresOnce}
 use Rattle.promises.specs.DocumentOne.{Room, Already}
 
 -- DEMAND 1. Every public call takes every input ..
@@ -57,14 +55,16 @@ pub record Judged (c : Card) (s : Seen) (k : Card) : Type 0 where
   -- No second answer, buffer or card meets the contract of the same call.
   pub no-second : (t : Seen) (j : Card) → Next c t j → callOf t ≡ callOf s → (t ≡ s) × (j ≡ k)
 
--- DEMAND 2. Registration and triggering order stand with demand 3 (registered, called). HANDLER AVAILABILITY: the proactive handler while
+-- DEMAND 2. Registration and triggering order stand with demand 3 (registered, names-it). HANDLER AVAILABILITY: the proactive handler while
 -- no command is outstanding (a profile ends it), the envelope handler with envelopes only, the response handler with call control and
 -- unrecognized ones. A STATUS is never refused.
 pub record Handlers (h : History) (s : Seen) : Type 0 where
   pub envelope-marks : (bytes : List ℕ) → refusalOf s ≡ 0 → callOf s ≡ arrival (envelope bytes) → s .entry .answer .marks ≡ envelopeMarks (isOutstanding h) (envelopeOf bytes)
   pub profile-marks : (bytes : List ℕ) → refusalOf s ≡ 0 → callOf s ≡ arrival (profile bytes) → s .entry .answer .marks ≡ otherMarks false
-  pub settled-marks : refusalOf s ≡ 0 → callOf s ≡ settled → s .entry .answer .marks ≡ otherMarks (isOutstanding h)
+  pub settled-marks : refusalOf s ≡ 0 → callOf s ≡ arrival settled → s .entry .answer .marks ≡ otherMarks (isOutstanding h)
   pub status-marks : callOf s ≡ arrival status → (refusalOf s ≡ 0) × (s .entry .answer .marks ≡ otherMarks (isOutstanding h))
+  -- The marks stay those of the arrival: next answers none.
+  pub next-marks : callOf s ≡ next → s .entry .answer .marks ≡ noMarks
 
 -- MENU ORDER: the position that applet n requested for its next entry, and the row that this entry makes.
 abbrev pub positionOf : Card → (applet : ℕ) → ℕ
@@ -156,36 +156,10 @@ pub record Holds (asked : List ℕ) (h : History) (c : Card) : Type 0 where
   pub profile : c .desk .profile ≡ profileNamed h
   pub session : c .desk .session ≡ inSession h
   pub outstanding : c .desk .outstanding ≡ isOutstanding h
-
--- A call more, seen as s: whom it calls, and what becomes of a one-shot.
-pub record Answers (h : History) (c : Card) (s : Seen) (k : Card) : Type 0 where
-  -- EVERY ACCEPTED EVENT names each selectable applet that the history registers for it, once, in order, and no other ..
-  pub called : refusalOf s ≡ 0 → Calls h (arrivalIn (callOf s)) (calledBy s)
-  -- .. no second list meets that, and it is as long as the list of those that are to be called ..
-  pub one-list : refusalOf s ≡ 0 → (other : List ℕ) → Calls h (arrivalIn (callOf s)) other → other ≡ calledBy s
-  pub as-many : refusalOf s ≡ 0 → length (calledBy s) ≡ count (isDue h (arrivalIn (callOf s))) oneToEight
-  -- .. a menu choice counts only while its row is enabled ..
-  pub choice-counts : (i n : ℕ) → refusalOf s ≡ 0 → arrivalIn (callOf s) ≡ choice i
-      → times n (calledBy s) ≡ (if isSelectable n h && some? (isChosen i n) (rowsNamed h) then 1 else 0)
-  -- .. a help request only while that row also offers help ..
-  pub help-counts : (i n : ℕ) → refusalOf s ≡ 0 → arrivalIn (callOf s) ≡ helpOn i
-      → times n (calledBy s) ≡ (if isSelectable n h && some? (isHelped i n) (rowsNamed h) then 1 else 0)
-  -- .. the end of a timer calls the owner that the history names ..
-  pub expiry-counts : (t n : ℕ) → refusalOf s ≡ 0 → arrivalIn (callOf s) ≡ expiry t
-      → times n (calledBy s) ≡ (if isSelectable n h && ownsTimer t n h then 1 else 0)
-  -- .. and a STATUS those whose request, as the history names it, is not none.
-  pub status-counts : (n : ℕ) → callOf s ≡ arrival status → times n (calledBy s) ≡ (if isSelectable n h && not (pollOf n h == 0) then 1 else 0)
-  -- Only settled arrives as the one-shot's event. A ONE-SHOT fires exactly at an accepted settled that finds its applet selectable ..
-  pub only-settled : arrivalIn (callOf s) ≡ settledArrival → callOf s ≡ settled
-  pub fires : (n : ℕ) → refusalOf s ≡ 0 → callOf s ≡ settled → times n (calledBy s) ≡ (if isSelectable n h && hasOneShot n h then 1 else 0)
-  -- .. and is used up then; that of a locked applet stays.
-  pub used-up : (n : ℕ) → refusalOf s ≡ 0 → callOf s ≡ settled
-      → has? (getD (k .registered) handlerAvailable 0) n ≡ (if has? (c .selectable) n then false else has? (getD (c .registered) handlerAvailable 0) n)
-  -- Any other call leaves it that neither clears it nor deletes its applet, and every refused call does.
-  pub lasts : (n : ℕ) → (refusalOf s ≡ 0 → (clears n handlerAvailable (s .entry) ≡ false) × (deletes n (s .entry) ≡ false) × (callOf s ≡ settled → has? (c .selectable) n ≡ false))
-      → has? (getD (c .registered) handlerAvailable 0) n ≡ true → has? (getD (k .registered) handlerAvailable 0) n ≡ true
-  -- What is asked of a registration is told as the history names it.
-  pub tells : (n e : ℕ) (v : ℤ) → refusalOf s ≡ 0 → callOf s ≡ event (askEvent n v) → kindOf v ≡ Event e → s .entry .answer .says ≡ isRegistered n e h
+  -- Whether a round is open is what the history names; and while one is, so are what arrived and who waits for a turn in it.
+  pub round-open : c .round .«open» ≡ isOpen h
+  pub arrived-so : isOpen h ≡ true → viewArrival (c .round .arrived) ≡ arrived h
+  pub waiting : isOpen h ≡ true → (n : ℕ) → 1 ≤ n → has? (c .round .waiting) n ≡ waits n h
 
 -- THE SCREEN.
 pub record OnScreen (asked : List ℕ) (l : List Seen) (c : Card) : Type 0 where
@@ -217,9 +191,11 @@ pub record Promised (asked : List ℕ) (l : List Seen) (c : Card) : Type 0 where
   -- demand 3
   pub holds : Holds asked (accepted (entriesOf l)) c
   pub answers : (s : Seen) (k : Card) → Next c s k → Answers (accepted (entriesOf l)) c s k
-  -- .. a one-shot, set and then settled, fires exactly once, wherever that stands in the calls (OneShots.antt)
-  pub one-shots : (n : ℕ) (later : List Seen) (moment : Seen) (stretch : List Seen) (setting : Seen) (before : List Seen)
-      → l ≡ later ++ (moment ∷ stretch ++ setting ∷ before) → SetAndSettled n later moment stretch setting before → FiresOnce n later moment stretch
+  -- .. an arrival followed at once by nexts names the list of document 01 (Turns.antt)
+  pub old-list : (s : Seen) (d : Card) → Next c s d → (x : ArrivalCall) → refusalOf s ≡ 0 → callOf s ≡ arrival x → NamesTheOldList c x d
+  -- .. a one-shot that is set, and then gets a turn in a round that settled opened, fires exactly once, wherever that stands in the calls (OneShots.antt)
+  pub one-shots : (n : ℕ) (later : List Seen) (turn : Seen) (stretch : List Seen) (setting : Seen) (before : List Seen)
+      → l ≡ later ++ (turn ∷ stretch ++ setting ∷ before) → SetAndTurned n later turn stretch setting before → FiresOnce n later turn stretch setting before
   -- the screen; and the card's room and what is so already (DocumentOne.antt)
   pub screen : OnScreen asked l c
   pub room : Room c

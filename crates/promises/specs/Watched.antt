@@ -2,7 +2,7 @@
 -- document 01 puts it, and with what it left in the buffer lent to it.
 use Prim.Native.Nat.{ℕ}
 use mathlib.Core.List.{List, [], _∷_, map}
-use lib.ListN.{take}
+use Rattle.lists.specs.Tests.{if_then_else_, _==_}
 use Rattle.rules.specs.declared.Answer as held
 use Rattle.rules.specs.Calls.{Answer, Call}
 use Rattle.card.specs.declared.Card.{Card}
@@ -22,7 +22,7 @@ entriesOf l = map (λ (s : Seen). s .entry) l
 abbrev pub callsOf : List Seen → List Call
 callsOf l = map (λ (s : Seen). s .entry .call) l
 
--- the call that was seen, the number of its refusal (0: accepted), and those that it called
+-- the call that was seen, the number of its refusal (0: accepted), and the one that it called, if any
 abbrev pub callOf : Seen → Call
 callOf s = s .entry .call
 
@@ -32,9 +32,16 @@ refusalOf s = s .entry .answer .refusal
 abbrev pub calledBy : Seen → List ℕ
 calledBy s = s .entry .answer .called
 
--- the answer that the struct holds, as document 01 puts it
+-- the answer that the struct holds, as document 01 puts it; 0 stands for nobody
 unfoldable pub onPaper : held.Answer → Answer
-onPaper a = record { refusal = a .refusal; number = a .number; says = a .says; called = take (a .count) (a .called); marks = a .marks }
+onPaper a =
+    record {
+      refusal = a .refusal;
+      number = a .number;
+      says = a .says;
+      called = if a .called == 0 then [] else a .called ∷ [];
+      marks = a .marks;
+    }
 
 -- ONE CALL ON A CARD: as it is seen, and the card that its method hands back. `Replies` and `Fills` are the contract of the method.
 pub data Next (c : Card) : Seen → Card → Type 0 where

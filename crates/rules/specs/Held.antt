@@ -1,6 +1,6 @@
 -- The structs of src/ as the rules see them. A list stands in an array with its count beside it and zeros behind it, so that
 -- each content has exactly one form: `viewRow` and its like read a struct, `storedRow` and its like give the one that holds it.
-use Prim.Native.Nat.{ℕ, _≤_}
+use Prim.Native.Nat.{_≤_}
 use mathlib.Core.Path.{_≡_}
 use mathlib.Core.Bool.{false}
 use mathlib.Core.List.{List, [], map}
@@ -13,7 +13,6 @@ use Rattle.rules.specs.declared.Item as held-item
 use Rattle.rules.specs.declared.Menu as held-menu
 use Rattle.rules.specs.declared.Answer as held-answer
 use Rattle.rules.specs.declared.Arrived.{Arrived}
-use Rattle.rules.specs.declared.Round as held-round
 use Rattle.rules.specs.declared.Rows.{Rows}
 use Rattle.rules.specs.Holds.{Row, Desk, document, Arrival, event, choice, help, expiry, status, nothing}
 use Rattle.rules.specs.Commands.{Item}

@@ -4,7 +4,7 @@ use mathlib.Core.Bool.{Bool, true, false, not, _&&_}
 use mathlib.Core.List.{List, [], _∷_, map}
 use lib.ListN.{take}
 use Rattle.lists.specs.Tests.{if_then_else_, _==_}
-use Rattle.lists.specs.Lists.{keep, in?, empty?}
+use Rattle.lists.specs.Lists.{keep, in?}
 use Rattle.rules.specs.Holds.{Applet, Tables, Round, noRound, Arrival, event, choice, help, expiry, status, nothing}
 use Rattle.rules.specs.Events.{handlerAvailable}
 use Rattle.rules.specs.Envelopes.{envelopeOf}

@@ -1,7 +1,7 @@
 -- `arrival_of` meets its contract.
 -- Assumes nothing.
 use Rattle.arrivals.proofs.Rounds.{row-kept}
-use mathlib.Core.Path.{refl, sym, ap, _∙_}
+use mathlib.Core.Path.{sym, ap, _∙_}
 use Rattle.rules.specs.Arrivals.{arrivalOf}
 use Rattle.rules.specs.Held.{storedArrival}
 use borrow.Author.Needs.{needs}

@@ -1,7 +1,6 @@
 -- `download_of` meets its contract.
 -- Assumes nothing.
 use mathlib.Core.Path.{sym, ap, _∙_}
-use Rattle.rules.specs.declared.Kind.{Kind}
 use Rattle.rules.specs.Arrivals.{download}
 use Rattle.rules.specs.Held.{storedArrival}
 use borrow.Author.Needs.{needs}
@@ -37,7 +36,7 @@ nothing-requires-3 c κs = search needs
 
 returns : tie.Need-returns
 unfolding download
-returns c = 
+returns c =
     let k = c .before .before in
     c .event-at .ensures ∙ ap storedArrival (ap download (sym (k .kind .given .1) ∙ k .before .before .kind-of-code .ensures))
 

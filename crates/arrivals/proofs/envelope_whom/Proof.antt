@@ -31,7 +31,7 @@ bit-requires-2 : tie.Need-bit-requires-2
 bit-requires-2 c κs = search needs
 
 returns-4 : tie.Need-returns-4
-returns-4 c e is polls t sound p q o k j = 
+returns-4 c e is polls t sound p q o k j =
     let i = c .before .before in
     for-as t (arrives-row _ e is (i .before .before .if1 .left) (i .before .if2 .left) (i .if3 .left)) (row-for t sound p _ _ (c .before .chosen-owner .ensures) (c .bit2 .ensures))
 

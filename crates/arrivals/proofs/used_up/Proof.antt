@@ -1,7 +1,5 @@
 -- `used_up` meets its contract.
 -- Assumes nothing.
-use mathlib.Core.Path.{sym, ap, _∙_}
-use borrow.Author.Tests.{eq-eqb, ne-eqb}
 use Rattle.arrivals.proofs.Rounds.{spends, spends-not, spends-never}
 use borrow.Author.Needs.{needs}
 use Rattle.arrivals.proofs.used_up.Statement.{statement}

@@ -19,7 +19,7 @@ bit-requires : tie.Need-bit-requires
 bit-requires c κs = search needs
 
 returns-2 : tie.Need-returns-2
-returns-2 c t sound p q o k j = 
+returns-2 c t sound p q o k j =
     let i = c .before .before in
     for-as t (row-view _ (i .before .if1 .left) (i .if2 .taken)) (row-for t sound p _ _ (c .before .chosen-owner .ensures) (c .bit .ensures))
 

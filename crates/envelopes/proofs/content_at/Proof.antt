@@ -8,11 +8,6 @@ use Rattle.envelopes.proofs.Contents.{content-none}
 use borrow.Author.Needs.{needs}
 use Rattle.envelopes.proofs.content_at.Statement.{statement}
 use Rattle.envelopes.proofs.content_at.Tie as tie
-use Rattle.envelopes.proofs.content_at.Reads as reads
-use Rattle.envelopes.proofs.content_at.Lts as lts
-use Rattle.envelopes.proofs.decide.Reads as decide-reads
-use Rattle.envelopes.proofs.is_bad.Reads as is-bad-reads
-use Rattle.tlv.proofs.outer.Reads as outer-reads
 
 outer-requires : tie.Need-outer-requires
 outer-requires c κs = search needs
@@ -20,20 +15,17 @@ outer-requires c κs = search needs
 enum-known-o : tie.Need-enum-known-o
 enum-known-o c = search needs
 
-sub-decide : tie.Need-sub-decide
-sub-decide c = search (outer-within, needs)
+sub-is-malformed : tie.Need-sub-is-malformed
+sub-is-malformed c = search (outer-within, needs)
 
-part-decide-start : tie.Need-part-decide-start
-part-decide-start c = search (outer-within, needs)
+part-is-malformed-start : tie.Need-part-is-malformed-start
+part-is-malformed-start c = search (outer-within, needs)
 
-part-decide-end : tie.Need-part-decide-end
-part-decide-end c = search needs
+part-is-malformed-end : tie.Need-part-is-malformed-end
+part-is-malformed-end c = search needs
 
-decide-requires : tie.Need-decide-requires
-decide-requires c κs = search needs
-
-is-bad-requires : tie.Need-is-bad-requires
-is-bad-requires c κs = search needs
+is-malformed-requires : tie.Need-is-malformed-requires
+is-malformed-requires c κs = search needs
 
 returns : tie.Need-returns
 unfolding contentAt envelopeOf
@@ -58,11 +50,10 @@ content-at-spec =
     (tie.spec
     outer-requires
     enum-known-o
-    sub-decide
-    part-decide-start
-    part-decide-end
-    decide-requires
-    is-bad-requires
+    sub-is-malformed
+    part-is-malformed-start
+    part-is-malformed-end
+    is-malformed-requires
     returns
     sub-len
     enum-told

@@ -2,7 +2,7 @@
 -- Assumes nothing.
 use Rattle.card.proofs.Left.{tidy-rows}
 use Rattle.card.proofs.Order.{count-small}
-use Rattle.card.proofs.Turn.{takes-turn}
+use Rattle.card.proofs.AfterTurn.{takes-turn}
 use borrow.Author.Needs.{needs}
 use Rattle.card.proofs.Card.next.Statement.{statement}
 use Rattle.card.proofs.Card.next.Tie as tie

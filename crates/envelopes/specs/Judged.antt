@@ -1,0 +1,19 @@
+-- What decides whether an envelope is malformed: its outer tag, the element that it needs, and its help request.
+use Prim.Native.Nat.{ℕ}
+use mathlib.Core.Bool.{Bool, true, false, not}
+use Rattle.lists.specs.Tests.{if_then_else_, _==_}
+use Rattle.rules.specs.declared.Found.{Found}
+use Rattle.rules.specs.declared.Found.the-variants.{At, Nothing}
+
+-- D3, D4, D6 and D7 are recognized
+unfoldable pub isRecognized : (tag : ℕ) → Bool
+isRecognized tag = if tag == 0xD3 then true else if tag == 0xD4 then true else if tag == 0xD6 then true else if tag == 0xD7 then true else false
+
+-- the element of one byte that is needed with D3, D6 and D7
+unfoldable pub neededBy : (tag : ℕ) → ℕ
+neededBy tag = if tag == 0xD3 then 0x10 else if tag == 0xD6 then 0x19 else 0x24
+
+-- a help request with bytes
+unfoldable pub isBadHelp : Found → Bool
+isBadHelp (At value) = not (value .len == 0)
+isBadHelp Nothing = false

@@ -1,0 +1,2 @@
+-- What decides whether an envelope is malformed.
+pub mod Judged
