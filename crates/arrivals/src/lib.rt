@@ -11,7 +11,6 @@ use rules::Marks;
 use rules::Roll;
 use rules::Round;
 use rules::Rows;
-use rules::refused;
 ghost use mathlib.Core.Path.{_≡_};
 ghost use mathlib.Core.Bool.{true};
 ghost use mathlib.Core.List.{[], _∷_};
@@ -193,6 +192,14 @@ pub fn turned(round: Round, named: u8) -> Round
     left
 }
 
+// Those whose turn may come: the selectable ones of those whom what arrived is for, while they wait.
+pub fn ready(whom: u8, selectable: u8, waiting: u8) -> u8
+    ensures { λ r. ⌜ r ≡ setBoth (setBoth selectable whom) waiting ⌝ }
+{
+    let wanted = sets::both(selectable, whom);
+    sets::both(wanted, waiting)
+}
+
 // The set of the one whose one-shot is used up: the one named, in a round that settled opened.
 pub fn used_up(arrived: Arrived, named: u8) -> u8
     ensures { λ r. ⌜ r ≡ (if bySettled (viewArrival arrived) then single named else 0) ⌝ }
@@ -215,16 +222,6 @@ pub fn refusal_if(holds: bool, number: u8) -> u8
         return number;
     }
     0
-}
-
-// The refusal of a settled moment: a command is outstanding, or a round open.
-pub fn settled_refusal(outstanding: bool, open: bool) -> u8
-    ensures { λ r. ⌜ r ≡ firstHolding (line 16 outstanding ∷ line 22 «open» ∷ []) ⌝ }
-{
-    if outstanding {
-        return refused::OUTSTANDING;
-    }
-    refusal_if(open, refused::ROUND_OPEN)
 }
 
 // The marks that come with a profile, a settled moment or a STATUS.

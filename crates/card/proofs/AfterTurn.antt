@@ -200,11 +200,10 @@ module _ (c : Card) (left : Left c) where
 
   -- NEXT, by what the parts of the code say
   pub takes-turn
-      : {r still ready who n spent rest : ℕ} {k : held-round.Round} {b : Answer}
+      : {r still who n spent rest : ℕ} {k : held-round.Round} {b : Answer}
       → r ≡ firstHolding (line 21 (not (c .round .«open»)) ∷ [])
       → IsForOn (viewRows (c .rows)) (c .registered) (c .bank .owner) (c .control) (c .polls) (viewArrival (c .round .arrived)) still
-      → ready ≡ setBoth (c .selectable) still
-      → who ≡ setBoth ready (c .round .waiting)
+      → who ≡ setBoth (setBoth (c .selectable) still) (c .round .waiting)
       → n ≡ first (has? who) 0 (take (c .roll .count) (c .roll .order))
       → k ≡ (if n == 0 then storedRound noRound else leaving (c .round) n)
       → spent ≡ (if bySettled (viewArrival (c .round .arrived)) then single n else 0)
@@ -212,9 +211,9 @@ module _ (c : Card) (left : Left c) where
       → b ≡ record { refusal = r; number = 0; says = false; called = n; marks = noMarks }
       → _≡_ {A = Reply} (record { card = turnedCard c (set (c .registered) handlerAvailable rest) k; answer = b }) (replied (step m next))
   unfolding view viewRound refusal lines step
-  takes-turn {r} {still} {n = n} {k = k} e f p w x y s z h =
+  takes-turn {r} {still} {n = n} {k = k} e f w x y s z h =
       let for-it = f t (left-sound c left .tables) refl (registered-form c left) refl refl (polls-form c left) in
-      let it = turn c left for-it (x ∙ ap (λ (j : ℕ). first (has? j) 0 (take (c .roll .count) (c .roll .order))) (w ∙ ap (λ (j : ℕ). setBoth j (c .round .waiting)) p)) in
+      let it = turn c left for-it (x ∙ ap (λ (j : ℕ). first (has? j) 0 (take (c .roll .count) (c .roll .order))) w) in
       replies (step m next)
       (ap (λ (g : List ℕ). turnedCard c g k) (ap (set (c .registered) handlerAvailable) (z ∙ ap (setWithout (getD (c .registered) handlerAvailable 0)) s))
       ∙ card-is-left e it (left-round e it y))

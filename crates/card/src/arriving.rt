@@ -23,7 +23,7 @@ impl Card {
         ensures { λ r. ⌜ Replies self (arrival settled) r ⌝ }
     {
         let mut left = self;
-        let refusal = arrivals::settled_refusal(left.desk.outstanding, left.round.open);
+        let refusal = refusals::settled_refusal(left.desk.outstanding, left.round.open);
         let registered = left.registered;
         let whom = registered[WAITING];
         let arrived = arrivals::event_at(Kind::HANDLER_AVAILABLE);
@@ -118,8 +118,7 @@ impl Card {
         ensures { λ r. ⌜ Replies self next r ⌝ }
     {
         let mut left = self;
-        let none = !left.round.open;
-        let refusal = arrivals::refusal_if(none, refused::NO_ROUND);
+        let refusal = refusals::next_refusal(left.round.open);
         let round = left.round;
         let arrived = round.arrived;
         let rows = left.rows;
@@ -127,8 +126,7 @@ impl Card {
         let bank = left.bank;
         let polls = left.polls;
         let still = arrivals::whom(arrived, rows, registered, bank, left.control, polls);
-        let ready = sets::both(left.selectable, still);
-        let who = sets::both(ready, round.waiting);
+        let who = arrivals::ready(still, left.selectable, round.waiting);
         let order = left.roll.order;
         let named = applets::first_of(order, left.roll.count, who);
         let turned = arrivals::turned(round, named);

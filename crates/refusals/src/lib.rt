@@ -209,3 +209,26 @@ pub fn hand_refusal(outstanding: bool, room: usize) -> u8
     }
     if room < 256 { refused::SHORT_BUFFER } else { 0 }
 }
+
+// Of a settled moment: a command is outstanding, or a round is open.
+pub fn settled_refusal(command: bool, open: bool) -> u8
+    ensures { λ r. ⌜ r ≡ firstHolding (line 16 command ∷ line 22 «open» ∷ []) ⌝ }
+{
+    if command {
+        return refused::OUTSTANDING;
+    }
+    if open {
+        return refused::ROUND_OPEN;
+    }
+    0
+}
+
+// Of next: no round is open.
+pub fn next_refusal(open: bool) -> u8
+    ensures { λ r. ⌜ r ≡ firstHolding (line 21 (not «open») ∷ []) ⌝ }
+{
+    if open {
+        return 0;
+    }
+    refused::NO_ROUND
+}

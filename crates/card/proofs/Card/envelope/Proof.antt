@@ -31,7 +31,16 @@ answered-requires : tie.Need-answered-requires
 answered-requires c κs = search needs
 
 returns : tie.Need-returns
-returns c = comes _ (c .before .before .before .before .before .before .before .before .before .before .before .before .before .pre) _ (c .before .before .before .before .before .before .before .before .before .before .before .read-envelope .ensures) (c .before .before .before .before .before .before .before .before .before .before .is-bad .ensures) (c .before .before .before .before .before .before .before .before .before .refusal-if .ensures) (c .before .before .before .before .before .before .before .before .arrival-of .ensures) (c .before .before .before .before .envelope-whom .ensures) (c .before .before .opened .ensures) (c .before .envelope-marks .ensures) (c .answered .ensures)
+returns c =
+    let n = c .before in
+    let o = n .before in
+    let w = o .before .before in
+    let a = w .before .before .before .before in
+    let r = a .before in
+    let x = r .before in
+    let e = x .before in
+    comes _ (e .before .before .pre) _ (e .read-envelope .ensures) (x .is-bad .ensures) (r .refusal-if .ensures) (a .arrival-of .ensures) (w .envelope-whom .ensures)
+    (o .opened .ensures) (n .envelope-marks .ensures) (c .answered .ensures)
 
 pub envelope-spec : {M : Type 1} → statement M
 envelope-spec =

@@ -7,20 +7,17 @@ use borrow.Author.Needs.{needs}
 use Rattle.card.proofs.Card.next.Statement.{statement}
 use Rattle.card.proofs.Card.next.Tie as tie
 
-refusal-if-requires : tie.Need-refusal-if-requires
-refusal-if-requires c κs = search needs
+next-refusal-requires : tie.Need-next-refusal-requires
+next-refusal-requires c κs = search needs
 
 whom-requires : tie.Need-whom-requires
-whom-requires c κs = tidy-rows _ (c .before .before .before .before .before .before .before .before .pre)
+whom-requires c κs = tidy-rows _ (c .before .before .before .before .before .before .before .pre)
 
-both-requires : tie.Need-both-requires
-both-requires c κs = search needs
-
-both-requires-2 : tie.Need-both-requires-2
-both-requires-2 c κs = search needs
+ready-requires : tie.Need-ready-requires
+ready-requires c κs = search needs
 
 first-of-requires : tie.Need-first-of-requires
-first-of-requires c κs = count-small _ (c .before .before .before .before .before .before .before .before .before .before .before .before .pre)
+first-of-requires c κs = count-small _ (c .before .before .before .before .before .before .before .before .before .before .pre)
 
 turned-requires : tie.Need-turned-requires
 turned-requires c κs = search needs
@@ -41,16 +38,23 @@ of-called-requires : tie.Need-of-called-requires
 of-called-requires c κs = search needs
 
 returns : tie.Need-returns
-returns c = takes-turn _ (c .before .before .before .before .before .before .before .before .before .before .before .before .before .before .before .before .before .pre) (c .before .before .before .before .before .before .before .before .before .before .before .before .before .before .before .refusal-if .ensures) (c .before .before .before .before .before .before .before .before .whom .ensures) (c .before .before .before .before .before .before .before .both .ensures) (c .before .before .before .before .before .before .both2 .ensures) (c .before .before .before .before .first-of .ensures) (c .before .before .before .turned .ensures) (c .before .before .used-up .ensures) (c .before .without .ensures) (c .of-called .ensures)
+returns c =
+    let o = c .before in
+    let u = o .before in
+    let t = u .before in
+    let f = t .before in
+    let r = f .before .before in
+    let w = r .before in
+    let e = w .before .before .before .before .before .before .before in
+    takes-turn _ (e .before .pre) (e .next-refusal .ensures) (w .whom .ensures) (r .ready .ensures) (f .first-of .ensures) (t .turned .ensures) (u .used-up .ensures) (o .without .ensures) (c .of-called .ensures)
 
 pub next-spec : {M : Type 1} → statement M
 next-spec =
     tie.close
     (tie.spec
-    refusal-if-requires
+    next-refusal-requires
     whom-requires
-    both-requires
-    both-requires-2
+    ready-requires
     first-of-requires
     turned-requires
     used-up-requires

@@ -37,10 +37,27 @@ begun-requires : tie.Need-begun-requires
 begun-requires c κs = search needs
 
 returns : tie.Need-returns
-returns c = begins-session _ (c .before .before .before .before .before .before .before .before .before .before .before .before .before .before .before .before .pre) _ (c .before .before .before .before .before .before .before .before .before .before .before .before .before .before .refusal-if .ensures) (c .before .before .before .before .before .before .before .before .before .before .before .before .event-at .ensures) (c .before .before .before .before .before .before .before .before .before .before .opened .ensures) (c .before .before .before .before .before .before .before .before .before .other-marks .ensures) (c .before .before .before .before .before .before .before .before .answered .ensures) (c .before .before .before .before .before .before .has-shown-row .ensures) (c .before .before .before .before .before .any-listened .ensures) (c .before .before .before .any-polled .ensures) (c .before .begun .ensures) (c .if1 .taken)
+returns c =
+    let d = c .before in
+    let i = d .before .before in
+    let y = i .before .before in
+    let x = y .before in
+    let b = x .before .before in
+    let n = b .before in
+    let o = n .before in
+    let a = o .before .before in
+    let r = a .before .before in
+    begins-session _ (r .before .before .pre) _ (r .refusal-if .ensures) (a .event-at .ensures) (o .opened .ensures) (n .other-marks .ensures) (b .answered .ensures)
+    (x .has-shown-row .ensures) (y .any-listened .ensures) (i .any-polled .ensures) (d .begun .ensures) (c .if1 .taken)
 
 returns-2 : tie.Need-returns-2
-returns-2 c = refuses-profile _ (c .before .before .before .before .before .before .before .before .before .before .before .before .before .before .before .before .pre) _ (c .before .before .before .before .before .before .before .before .before .before .before .before .before .before .refusal-if .ensures) (c .before .before .before .before .before .before .before .before .before .before .before .before .event-at .ensures) (c .before .before .before .before .before .before .before .before .before .before .opened .ensures) (c .before .before .before .before .before .before .before .before .before .other-marks .ensures) (c .before .before .before .before .before .before .before .before .answered .ensures) (c .if1 .left)
+returns-2 c =
+    let b = c .before .before .before .before .before .before .before .before in
+    let n = b .before in
+    let o = n .before in
+    let a = o .before .before in
+    let r = a .before .before in
+    refuses-profile _ (r .before .before .pre) _ (r .refusal-if .ensures) (a .event-at .ensures) (o .opened .ensures) (n .other-marks .ensures) (b .answered .ensures) (c .if1 .left)
 
 pub profile-spec : {M : Type 1} → statement M
 profile-spec =

@@ -24,7 +24,12 @@ answered-requires : tie.Need-answered-requires
 answered-requires c κs = search needs
 
 returns : tie.Need-returns
-returns c = settles _ (c .before .before .before .before .before .before .before .pre) (c .before .before .before .before .before .before .settled-refusal .ensures) (c .before .before .before .before .event-at .ensures) (c .before .before .opened .ensures) (c .before .other-marks .ensures) (c .answered .ensures)
+returns c =
+    let n = c .before in
+    let o = n .before in
+    let a = o .before .before in
+    let r = a .before .before in
+    settles _ (r .before .pre) (r .settled-refusal .ensures) (a .event-at .ensures) (o .opened .ensures) (n .other-marks .ensures) (c .answered .ensures)
 
 pub settled-spec : {M : Type 1} → statement M
 settled-spec =

@@ -18,7 +18,11 @@ answered-requires : tie.Need-answered-requires
 answered-requires c κs = search needs
 
 returns : tie.Need-returns
-returns c = wakes _ (c .before .before .before .before .before .before .pre) (c .before .before .before .before .polling-set .ensures) (c .before .before .opened .ensures) (c .before .other-marks .ensures) (c .answered .ensures)
+returns c =
+    let n = c .before in
+    let o = n .before in
+    let w = o .before .before in
+    wakes _ (w .before .before .pre) (w .polling-set .ensures) (o .opened .ensures) (n .other-marks .ensures) (c .answered .ensures)
 
 pub status-spec : {M : Type 1} → statement M
 status-spec =
