@@ -68,17 +68,12 @@ impl Card {
             let registered = left.registered;
             let events = events_shown::codes_turn(registered, was, is);
             let polls = left.polls;
-            let polling = polling::due_switched(
-                left.desk.session,
-                left.desk.due.interval,
-                left.desk.due.off,
-                polls,
-                was,
-                applet,
-                false,
-            );
-            let menu_due = due_after(left.desk.session, left.desk.due.menu, menu);
-            let events_due = due_after(left.desk.session, left.desk.due.events, events);
+            let session = left.desk.session;
+            let interval = left.desk.due.interval;
+            let off = left.desk.due.off;
+            let polling = polling::due_switched(session, interval, off, polls, was, applet, false);
+            let menu_due = due_after(session, left.desk.due.menu, menu);
+            let events_due = due_after(session, left.desk.due.events, events);
             left.selectable = is;
             left.desk.due.menu = menu_due;
             left.desk.due.events = events_due;
@@ -106,17 +101,12 @@ impl Card {
             let registered = left.registered;
             let events = events_shown::codes_turn(registered, was, is);
             let polls = left.polls;
-            let polling = polling::due_switched(
-                left.desk.session,
-                left.desk.due.interval,
-                left.desk.due.off,
-                polls,
-                was,
-                applet,
-                true,
-            );
-            let menu_due = due_after(left.desk.session, left.desk.due.menu, menu);
-            let events_due = due_after(left.desk.session, left.desk.due.events, events);
+            let session = left.desk.session;
+            let interval = left.desk.due.interval;
+            let off = left.desk.due.off;
+            let polling = polling::due_switched(session, interval, off, polls, was, applet, true);
+            let menu_due = due_after(session, left.desk.due.menu, menu);
+            let events_due = due_after(session, left.desk.due.events, events);
             left.selectable = is;
             left.desk.due.menu = menu_due;
             left.desk.due.events = events_due;

@@ -22,38 +22,29 @@ impl Card {
             let is = sets::switched(was, applet, false);
             let rows = left.rows;
             let registered = left.registered;
-            let roll = left.roll;
             let made = left.made;
-            let bank = left.bank;
             let menu = menu_turns(true, was, applet, false, rows);
             let events = events_shown::codes_turn(registered, was, is);
             let polls = left.polls;
-            let polling = polling::due_switched(
-                left.desk.session,
-                left.desk.due.interval,
-                left.desk.due.off,
-                polls,
-                was,
-                applet,
-                false,
-            );
-            let menu_due = due_after(left.desk.session, left.desk.due.menu, menu);
-            let events_due = due_after(left.desk.session, left.desk.due.events, events);
-            let next_roll = applets::roll_without(roll, applet);
+            let session = left.desk.session;
+            let interval = left.desk.due.interval;
+            let off = left.desk.due.off;
+            let polling = polling::due_switched(session, interval, off, polls, was, applet, false);
+            let menu_due = due_after(session, left.desk.due.menu, menu);
+            let events_due = due_after(session, left.desk.due.events, events);
+            let next_roll = applets::roll_without(left.roll, applet);
             let next_registered = applets::unregistered(registered, applet);
             let next_made = applets::made_with(made, applet, 0);
             let next_polls = polling::poll_with(polls, applet, 0);
-            let next_bank = timers::freed(bank, applet);
-            let control = applets::owner_without(left.control, applet);
             let next_rows = menu::without(rows, applet);
             let waiting = sets::switched(left.round.waiting, applet, false);
+            left.control = applets::owner_without(left.control, applet);
+            left.bank = timers::freed(left.bank, applet);
             left.roll = next_roll;
             left.selectable = is;
             left.registered = next_registered;
             left.made = next_made;
             left.polls = next_polls;
-            left.control = control;
-            left.bank = next_bank;
             left.desk.due.menu = menu_due;
             left.desk.due.events = events_due;
             left.desk.due.interval = polling.interval;
@@ -61,8 +52,7 @@ impl Card {
             left.rows = next_rows;
             left.round.waiting = waiting;
         }
-        let refusal = absent_refusal(there);
-        let answer = answers::of_refusal(refusal);
+        let answer = answers::of_refusal(absent_refusal(there));
         Reply { card: left, answer }
     }
 }

@@ -1,17 +1,19 @@
 // What an envelope says, what a command given to send says, and the handler's content. The first occurrence of an element
 // counts, also when its length is not the one stated.
+mod handler;
+
+pub use handler::content;
+pub use handler::content_at;
 use rules::Byte;
 use rules::Command;
 use rules::Envelope;
 use rules::Found;
 use rules::Help;
 use rules::Outer;
-use rules::Span;
 ghost use mathlib.Core.Path.{_≡_};
 ghost use Rattle.rules.specs.Bytes.{found};
 ghost use Rattle.rules.specs.Envelopes.{isSized, oneByte, helpIn, envelopeBy, badEnvelope, typeIn, commandBy};
-ghost use Rattle.envelopes.specs.Judged.{neededBy, isRecognized, isBadHelp};
-ghost use Rattle.rules.specs.Readers.{LocatesContent, GivesContent, ReadsEnvelope, ReadsCommand};
+ghost use Rattle.rules.specs.Readers.{ReadsEnvelope, ReadsCommand};
 
 // Whether device identities are there, with their two bytes.
 fn has_devices(s: &[u8]) -> bool
@@ -157,106 +159,6 @@ pub fn is_bad(e: Envelope) -> bool
         Envelope::Expiry { timer: _ } => false,
         Envelope::Unrecognized => false,
         Envelope::Malformed => true,
-    }
-}
-
-// The element of one byte that a recognized envelope with this outer tag needs.
-fn needed(tag: u8) -> u16
-    ensures { λ r. ⌜ r ≡ neededBy tag ⌝ }
-{
-    match tag {
-        0xD3 => 0x10,
-        0xD6 => 0x19,
-        _ => 0x24,
-    }
-}
-
-// Whether an envelope with this outer tag is recognized.
-fn is_recognized(tag: u8) -> bool
-    ensures { λ r. ⌜ r ≡ isRecognized tag ⌝ }
-{
-    match tag {
-        0xD3 => true,
-        0xD4 => true,
-        0xD6 => true,
-        0xD7 => true,
-        _ => false,
-    }
-}
-
-// Whether an element is there, with its one byte.
-fn has_byte(s: &[u8], element: u16) -> bool
-    ensures { λ r. ⌜ r ≡ isSized 1 (found (now (s .entry)) element 1) ⌝ }
-{
-    let f = tlv::locate(s, element, 1);
-    match f {
-        Found::At(value) => value.len == 1,
-        Found::Nothing => false,
-    }
-}
-
-// Whether a help request has bytes.
-fn is_bad_help(s: &[u8]) -> bool
-    ensures { λ r. ⌜ r ≡ isBadHelp (found (now (s .entry)) 0x15 1) ⌝ }
-{
-    let f = tlv::locate(s, 0x15, 1);
-    match f {
-        Found::At(value) => value.len != 0,
-        Found::Nothing => false,
-    }
-}
-
-// Whether an envelope with this outer tag and this value is malformed. What it says is not made, so that `decide` has one caller, the
-// card's, and stands in its code.
-fn is_malformed(tag: u8, s: &[u8]) -> bool
-    ensures { λ r. ⌜ r ≡ badEnvelope (envelopeBy tag (now (s .entry))) ⌝ }
-{
-    if is_recognized(tag) {
-        if has_devices(s) {
-            if tag == 0xD4 {
-                return false;
-            }
-            if has_byte(s, needed(tag)) {
-                if tag == 0xD3 {
-                    return is_bad_help(s);
-                }
-                return false;
-            }
-        }
-        return true;
-    }
-    false
-}
-
-// Where the handler's content stands: behind the length, to the end; nowhere in bytes that are refused.
-pub fn content_at(s: &[u8]) -> Found
-    ensures { λ r. ⌜ LocatesContent (now (s .entry)) r ⌝ }
-{
-    let o = tlv::outer(s);
-    match o {
-        Outer::Tlv { tag, start } => {
-            if is_malformed(tag, &s[start..]) {
-                return Found::Nothing;
-            }
-            let len = s.len() - start;
-            Found::At(Span { start, len })
-        }
-        Outer::Malformed => Found::Nothing,
-    }
-}
-
-// The handler's content, a part of the envelope; the empty part where there is none.
-pub fn content(s: &[u8]) -> &[u8]
-    ensures { λ r. ⌜ GivesContent (now (s .entry)) (now r) ⌝ }
-{
-    let place = content_at(s);
-    match place {
-        Found::At(value) => {
-            let start = value.start;
-            let len = value.len;
-            &s[start..start + len]
-        }
-        Found::Nothing => &s[..0],
     }
 }
 

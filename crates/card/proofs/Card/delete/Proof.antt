@@ -32,7 +32,7 @@ switched-requires : tie.Need-switched-requires
 switched-requires c κs = search needs
 
 menu-turns-requires : tie.Need-menu-turns-requires
-menu-turns-requires c κs = tidy-rows _ (c .before .before .before .before .before .before .before .before .pre)
+menu-turns-requires c κs = tidy-rows _ (c .before .before .before .before .before .before .pre)
 
 codes-turn-requires : tie.Need-codes-turn-requires
 codes-turn-requires c κs = search needs
@@ -48,7 +48,7 @@ due-after-requires-2 c κs = search needs
 
 roll-without-requires : tie.Need-roll-without-requires
 roll-without-requires c κs =
-    let t = c .before .before .before .before .before .before .before .before .before .before .before .before in
+    let t = c .before .before .before .before .before .before .before .before .before .before in
     let s = t .before .before in
     let there = sym (t .before .has .ensures) ∙ t .if1 .taken in
     (low-is (s .args .self) (s .pre) (s .args .applet) there, high-is (s .args .self) (s .pre) (s .args .applet) there, count-small _ (s .pre))
@@ -62,17 +62,17 @@ made-with-requires c κs = search needs
 poll-with-requires : tie.Need-poll-with-requires
 poll-with-requires c κs = search needs
 
-freed-requires : tie.Need-freed-requires
-freed-requires c κs = search needs
+without-requires : tie.Need-without-requires
+without-requires c κs = tidy-rows _ (c .before .before .before .before .before .before .before .before .before .before .before .before .before .before .before .before .pre)
+
+switched-requires-2 : tie.Need-switched-requires-2
+switched-requires-2 c κs = search needs
 
 owner-without-requires : tie.Need-owner-without-requires
 owner-without-requires c κs = search needs
 
-without-requires : tie.Need-without-requires
-without-requires c κs = tidy-rows _ (c .before .before .before .before .before .before .before .before .before .before .before .before .before .before .before .before .before .before .before .before .pre)
-
-switched-requires-2 : tie.Need-switched-requires-2
-switched-requires-2 c κs = search needs
+freed-requires : tie.Need-freed-requires
+freed-requires c κs = search needs
 
 absent-refusal-requires : tie.Need-absent-refusal-requires
 absent-refusal-requires c κs = search needs
@@ -88,9 +88,9 @@ returns c =
     let s = h .before in
     ⊎-elim
     (λ w. deletes (s .args .self) (s .pre) (s .args .applet) (h .has .ensures) (a .absent-refusal .ensures) (w .0 .taken)
-    (w .26
+    (w .24
     ∙ removes (s .args .self) (s .pre) (s .args .applet) (sym (h .has .ensures) ∙ w .0 .taken)
-    (w .1 .ensures) (w .7 .ensures) (w .8 .ensures) (w .10 .ensures) (w .11 .ensures) (w .12 .ensures) (w .13 .ensures) (w .14 .ensures) (w .15 .ensures) (w .16 .ensures) (w .17 .ensures) (w .18 .ensures) (w .19 .ensures) (w .20 .ensures))
+    (w .1 .ensures) (w .5 .ensures) (w .6 .ensures) (w .8 .ensures) (w .9 .ensures) (w .10 .ensures) (w .11 .ensures) (w .12 .ensures) (w .13 .ensures) (w .14 .ensures) (w .18 .ensures) (w .17 .ensures) (w .15 .ensures) (w .16 .ensures))
     (c .of-refusal .ensures))
     (λ w. deletes-none (s .args .self) (s .pre) (s .args .applet) (h .has .ensures) (a .absent-refusal .ensures) (w .0 .left) (w .1) (c .of-refusal .ensures))
     (j .if1 .came)
@@ -110,10 +110,10 @@ delete-spec =
     unregistered-requires
     made-with-requires
     poll-with-requires
-    freed-requires
-    owner-without-requires
     without-requires
     switched-requires-2
+    owner-without-requires
+    freed-requires
     absent-refusal-requires
     of-refusal-requires
     returns)

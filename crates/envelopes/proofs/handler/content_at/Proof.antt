@@ -1,4 +1,4 @@
--- `envelopes::content_at` tells where the handler's content stands.
+-- `envelopes::handler::content_at` tells where the handler's content stands.
 -- Assumes nothing.
 use Rattle.lists.proofs.Picks.{picks, by-call, by-case₁}
 use Rattle.rules.specs.Envelopes.{envelopeOf, badEnvelope, behindLength, contentAt}
@@ -6,8 +6,8 @@ use Rattle.tlv.proofs.Wraps.{outer-within}
 use Rattle.envelopes.proofs.Says.{by-tlv, by-malformed}
 use Rattle.envelopes.proofs.Contents.{content-none}
 use borrow.Author.Needs.{needs}
-use Rattle.envelopes.proofs.content_at.Statement.{statement}
-use Rattle.envelopes.proofs.content_at.Tie as tie
+use Rattle.envelopes.proofs.handler.content_at.Statement.{statement}
+use Rattle.envelopes.proofs.handler.content_at.Tie as tie
 
 outer-requires : tie.Need-outer-requires
 outer-requires c κs = search needs

@@ -1,4 +1,4 @@
--- `envelopes::content` gives the part of the bytes that is the handler's content.
+-- `envelopes::handler::content` gives the part of the bytes that is the handler's content.
 -- Assumes nothing.
 use native.Mathlib.Nat.{add-sub-cancel-left}
 use Rattle.lists.proofs.Picks.{by-case₁}
@@ -6,11 +6,11 @@ use Rattle.rules.specs.Bytes.{partOf}
 use Rattle.rules.specs.Envelopes.{contentOf}
 use Rattle.envelopes.proofs.Contents.{content-inside, content-fits}
 use borrow.Author.Needs.{needs}
-use Rattle.envelopes.proofs.content.Statement.{statement}
-use Rattle.envelopes.proofs.content.Tie as tie
-use Rattle.envelopes.proofs.content.Reads as reads
-use Rattle.envelopes.proofs.content.Lts as lts
-use Rattle.envelopes.proofs.content_at.Reads as content-at-reads
+use Rattle.envelopes.proofs.handler.content.Statement.{statement}
+use Rattle.envelopes.proofs.handler.content.Tie as tie
+use Rattle.envelopes.proofs.handler.content.Reads as reads
+use Rattle.envelopes.proofs.handler.content.Lts as lts
+use Rattle.envelopes.proofs.handler.content_at.Reads as content-at-reads
 
 content-at-requires : tie.Need-content-at-requires
 content-at-requires c κs = search needs

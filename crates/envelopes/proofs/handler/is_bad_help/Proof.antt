@@ -1,10 +1,10 @@
--- `envelopes::is_bad_help` tells whether a help request has bytes.
+-- `envelopes::handler::is_bad_help` tells whether a help request has bytes.
 -- Assumes nothing.
 use Rattle.lists.proofs.Picks.{picks, by-case}
 use Rattle.envelopes.specs.Judged.{isBadHelp}
 use borrow.Author.Needs.{needs}
-use Rattle.envelopes.proofs.is_bad_help.Statement.{statement}
-use Rattle.envelopes.proofs.is_bad_help.Tie as tie
+use Rattle.envelopes.proofs.handler.is_bad_help.Statement.{statement}
+use Rattle.envelopes.proofs.handler.is_bad_help.Tie as tie
 
 locate-requires : tie.Need-locate-requires
 locate-requires c κs = search needs

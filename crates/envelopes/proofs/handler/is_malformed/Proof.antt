@@ -1,9 +1,9 @@
--- `envelopes::is_malformed` judges an envelope.
+-- `envelopes::handler::is_malformed` judges an envelope.
 -- Assumes nothing.
 use Rattle.envelopes.proofs.Judged.{unknown, no-devices, call-control, no-byte, menu-selection, other-one}
 use borrow.Author.Needs.{needs}
-use Rattle.envelopes.proofs.is_malformed.Statement.{statement}
-use Rattle.envelopes.proofs.is_malformed.Tie as tie
+use Rattle.envelopes.proofs.handler.is_malformed.Statement.{statement}
+use Rattle.envelopes.proofs.handler.is_malformed.Tie as tie
 
 is-recognized-requires : tie.Need-is-recognized-requires
 is-recognized-requires c κs = search needs

@@ -1,10 +1,10 @@
--- `envelopes::has_byte` tells whether an element of one byte is there.
+-- `envelopes::handler::has_byte` tells whether an element of one byte is there.
 -- Assumes nothing.
 use Rattle.lists.proofs.Picks.{picks, by-case₁}
 use Rattle.rules.specs.Envelopes.{isSized}
 use borrow.Author.Needs.{needs}
-use Rattle.envelopes.proofs.has_byte.Statement.{statement}
-use Rattle.envelopes.proofs.has_byte.Tie as tie
+use Rattle.envelopes.proofs.handler.has_byte.Statement.{statement}
+use Rattle.envelopes.proofs.handler.has_byte.Tie as tie
 
 locate-requires : tie.Need-locate-requires
 locate-requires c κs = search needs
