@@ -18,6 +18,7 @@ static const struct toolkit_request no_entries = {5, 1, 0, 15, {{0, 0}}};
 static const uint8_t text[] = "Crate label 123", title[] = "Packing station No 7", profile[32] = {0xFF, 0xFF};
 static const int16_t events[] = {1, 9, 12, 13, 14, 15, 16, 17, 18, 20, 21, 25, 26, 28, 29, 123, -1};
 static const uint8_t selection[] = {0xD3, 9, 0x82, 2, 0x82, 0x81, 0x90, 1, 139, 0x95, 0};
+static const uint8_t long_tags[] = {0xD3, 15, 0x7F, 0x80, 0x02, 2, 0x82, 0x81, 0x7F, 0x80, 0x10, 1, 139, 0x7F, 0x80, 0x15, 0};
 static const uint8_t download[] = {0xD6, 7, 0x82, 2, 0x82, 0x81, 0x99, 1, 5};
 static const uint8_t expiry[] = {0xD7, 7, 0x82, 2, 0x82, 0x81, 0xA4, 1, 8};
 static const uint8_t unrecognized[] = {0xC1, 4, 0x82, 2, 0x82, 0x81};
@@ -184,6 +185,8 @@ static void help_asked(struct both *b)
     CALL(profile, nothing, toolkit_profile(&b->ours, profile, 32).refusal, card_profile(&b->plain, profile, 32, &marks))                \
     CALL(envelope_help, nothing, toolkit_envelope(&b->ours, selection, sizeof selection).refusal,                                       \
          card_envelope(&b->plain, selection, sizeof selection, &marks))                                                                 \
+    CALL(envelope_long_tags, nothing, toolkit_envelope(&b->ours, long_tags, sizeof long_tags).refusal,                                  \
+         card_envelope(&b->plain, long_tags, sizeof long_tags, &marks))                                                                 \
     CALL(envelope_event, nothing, toolkit_envelope(&b->ours, download, sizeof download).refusal,                                        \
          card_envelope(&b->plain, download, sizeof download, &marks))                                                                   \
     CALL(envelope_timer, nothing, toolkit_envelope(&b->ours, expiry, sizeof expiry).refusal,                                            \

@@ -190,6 +190,19 @@ CALL_CASES = {
         set_event 1 123 > 0
         next > 0
         ask_event 1 123 > 0 yes""",
+    "commands by three-byte tags": f"""
+        {TIMED}
+        send 1 xD0077F000103012100 > 0
+        response > 0
+        send 1 xD0077F800103012500 > 17
+        send 1 xD0077F010103012100 > 1
+        send 1 xD00A81030127007F00240101 > 0
+        response > 0
+        send 1 xD00A81030127007F80240102 > 15
+        send 1 xD00D81030127007F00240101240102 > 0
+        response > 0
+        send 1 xD00A81030127007F01240101 > 1
+        send 1 xD00B7F00010201218103012100 > 1""",
     "a one-shot cleared before its turn": """
         install 1 > 0
         set_event 1 123 > 0

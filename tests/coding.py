@@ -77,7 +77,7 @@ COMPREHENSION = 0x80
 SUBJECT_TAG = {MENU_SELECTION: ITEM_IDENTIFIER, EVENT_DOWNLOAD: EVENT_LIST, TIMER_EXPIRATION: TIMER_IDENTIFIER}
 SET_UP_MENU, SET_UP_EVENT_LIST, POLL_INTERVAL, POLLING_OFF, TIMER_MANAGEMENT = 0x25, 0x05, 0x03, 0x04, 0x27
 IN_MINUTES, IN_SECONDS = 0x00, 0x01
-THREE_BYTES = 0x7F
+THREE_BYTES, LAST_TAG = 0x7F, 0x7FFF
 SOME_HELP = 0x80
 CARD_TO_TERMINAL = bytes([0x81, 0x82])
 
@@ -91,21 +91,28 @@ def read_length(data, at):
     return second, at + 2
 
 
+def read_tag(run, at):
+    """The number of a tag in either form, without its flag, and the place behind it."""
+    refuse_if(run[at] in (0x00, 0x80, 0xFF), Refusal.MALFORMED)
+    if run[at] != THREE_BYTES:
+        return run[at] & ~COMPREHENSION, at + 1
+    return int.from_bytes(run[at + 1:at + 3], "big") & LAST_TAG, at + 3
+
+
 def elements(run):
-    """Tag (without the flag), start and length of each element, until the end or malformed bytes."""
+    """Tag number, start and length of each element, until the end or malformed bytes."""
     at = 0
     while at < len(run):
-        first = run[at]
-        refuse_if(first in (0x00, 0x80, 0xFF), Refusal.MALFORMED)
-        length, start = read_length(run, at + (3 if first == THREE_BYTES else 1))
+        tag, behind = read_tag(run, at)
+        length, start = read_length(run, behind)
         at = start + length
         refuse_if(at > len(run), Refusal.MALFORMED)
-        yield first & ~COMPREHENSION, start, length
+        yield tag, start, length
 
 
 def find(run, tag, occurrence):
     """The value of the element with this tag number, counted from 1."""
-    if not 0x01 <= tag <= 0x7E:
+    if not 1 <= tag <= LAST_TAG:
         return Part()
     seen = 0
     try:

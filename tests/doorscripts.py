@@ -102,7 +102,7 @@ class Script:
         data = rng.choice([b"", rng.randbytes(rng.choice([1, 2, 3, 12, 13, 40, 256])), draws.envelope(rng, {0xD3: [128], 0xD6: [], 0xD7: []}),
                            draws.command(rng, [1]), draws.text(rng, 15)])
         if one_in(rng, 6):
-            return self.find(data, rng.choice([0x1FF, 0x7F00, 0xFFFF, 0x100 | rng.randrange(256)]), rng.choice([1, 2**32, 2**64 - 1]))
+            return self.find(data, rng.choice([0x1FF, 0x7F00, 0x8000, 0xFFFF, 0x100 | rng.randrange(256)]), rng.choice([1, 2**32, 2**64 - 1]))
         name = rng.choice(doors.CALLS)
         applet = rng.choice([0, 9, 255] if name == "delete" else [0, 1, 2, 9, 255])
         self.call(name, *self.inputs_of(name, applet, data))
@@ -117,6 +117,21 @@ def sequence(seed):
         script.make(name, inputs)
         if one_in(script.rng, 4):
             script.stray()
+    return script
+
+
+TAGS = [0x0000, 0x0001, 0x0010, 0x007E, 0x007F, 0x0080, 0x0090, 0x00FF, 0x0100, 0x0110, 0x7F10, 0x7FFE, 0x7FFF]
+
+
+def tags():
+    """Each of some tag numbers, and what its flag would make of it, sought in runs that have them all, in either form and in both."""
+    script = Script(7)
+    for _ in range(8):
+        run = b"".join(draws.tagged(script.rng, tag, bytes([at])) for at, tag in enumerate(script.rng.sample(TAGS * 2, 2 * len(TAGS))))
+        for tag in TAGS:
+            for occurrence in range(4):
+                script.find(run, tag, occurrence)
+                script.find(run, tag | 0x8000, occurrence)
     return script
 
 

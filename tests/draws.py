@@ -1,13 +1,15 @@
 """Random bytes of interesting kinds: envelopes, commands, runs of elements and menus, sound or damaged."""
 
 from coding import (CALL_CONTROL, COMMAND_DETAILS, COMPREHENSION, DEVICE_IDENTITIES, EVENT_DOWNLOAD, HELP_REQUEST,
-                    MENU_SELECTION, POLLING_OFF, POLL_INTERVAL, PROACTIVE_COMMAND, ROW_LIMIT, SET_UP_EVENT_LIST,
+                    LAST_TAG, MENU_SELECTION, POLLING_OFF, POLL_INTERVAL, PROACTIVE_COMMAND, ROW_LIMIT, SET_UP_EVENT_LIST,
                     SET_UP_MENU, SUBJECT_TAG, THREE_BYTES, TIMER_EXPIRATION, TIMER_IDENTIFIER, TIMER_MANAGEMENT,
                     with_length, write_events, write_menu)
 
 DISPLAY_TEXT = 0x21
 TITLES = [b"Pick list", b"Crate label", b"Chairs", b"A"]
 LONG_VALUES = [0x7E, 0x7F, 0x80, 0x81, 0xC0]
+LAST_IN_ONE_BYTE = 0x7E
+OTHER_BITS = [0x0080, 0x0100, 0x4000, 0x7F00]
 
 
 def one_in(rng, many):
@@ -26,14 +28,21 @@ def flagged(rng, tag):
     return tag | rng.choice([0, COMPREHENSION])
 
 
+def in_three_bytes(rng, tag, value):
+    return bytes([THREE_BYTES, flagged(rng, tag >> 8)]) + with_length(tag & 0xFF, value)
+
+
+def tagged(rng, tag, value):
+    """An element by this tag number, in one of the forms that have it."""
+    if not 1 <= tag <= LAST_IN_ONE_BYTE or one_in(rng, 4):
+        return in_three_bytes(rng, tag, value)
+    return with_length(flagged(rng, tag), value)
+
+
 def odd_element(rng, tag):
-    """An element beside the needed ones: the same tag again, a three-byte tag, help or any other."""
-    value = rng.randbytes(rng.choice([0, 1, 1, 2, 3]))
-    again = with_length(flagged(rng, tag), value)
-    three = bytes([THREE_BYTES, rng.choice([0, 0x80, rng.randrange(256)])]) + with_length(tag, value)
-    helped = with_length(flagged(rng, HELP_REQUEST), value)
-    other = with_length(flagged(rng, rng.randint(0x01, 0x7E)), value)
-    return rng.choice([again, three, helped, other])
+    """An element beside the needed ones: the same tag again, one that is like it in its last byte, help or any other."""
+    odd = rng.choice([tag, tag | rng.choice(OTHER_BITS), HELP_REQUEST, rng.randint(0, LAST_IN_ONE_BYTE)])
+    return tagged(rng, odd, rng.randbytes(rng.choice([0, 1, 1, 2, 3])))
 
 
 def vary(rng, parts, tag):
@@ -46,7 +55,7 @@ def vary(rng, parts, tag):
         elif change == 3 and parts:
             parts.pop(rng.randrange(len(parts)))
         elif change == 4 and parts:
-            parts[rng.randrange(len(parts))] = with_length(flagged(rng, tag), rng.randbytes(rng.choice([0, 2])))
+            parts[rng.randrange(len(parts))] = tagged(rng, tag, rng.randbytes(rng.choice([0, 2])))
         else:
             rng.shuffle(parts)
     return parts
@@ -55,7 +64,7 @@ def vary(rng, parts, tag):
 def lengthen(rng, parts):
     """Puts in one element around the place where a length takes two bytes."""
     value = rng.randbytes(rng.choice(LONG_VALUES))
-    return parts + [with_length(flagged(rng, 0x0D), value)]
+    return parts + [tagged(rng, 0x0D, value)]
 
 
 def damage(rng, data):
@@ -85,7 +94,7 @@ def wrapped(rng, outer, parts, tag, long_ones):
 
 
 def devices(rng):
-    return with_length(flagged(rng, DEVICE_IDENTITIES), bytes([0x82, 0x81]))
+    return tagged(rng, DEVICE_IDENTITIES, bytes([0x82, 0x81]))
 
 
 def envelope(rng, subjects, long_ones=False):
@@ -96,9 +105,9 @@ def envelope(rng, subjects, long_ones=False):
     parts = [devices(rng)]
     if outer in SUBJECT_TAG:
         subject = rng.randrange(256) if one_in(rng, 10) else rng.choice(subjects[outer] or [1])
-        parts.append(with_length(flagged(rng, tag), bytes([subject])))
+        parts.append(tagged(rng, tag, bytes([subject])))
     if outer == MENU_SELECTION and one_in(rng, 3):
-        parts.append(with_length(flagged(rng, HELP_REQUEST), b""))
+        parts.append(tagged(rng, HELP_REQUEST, b""))
     if outer not in SUBJECT_TAG and one_in(rng, 3):
         parts = parts[1:]
     return wrapped(rng, outer, parts, tag, long_ones)
@@ -109,25 +118,25 @@ def command(rng, timers):
     kind = rng.choice([DISPLAY_TEXT] * 3 + [TIMER_MANAGEMENT] * 4 + [rng.randrange(256), SET_UP_MENU,
                       SET_UP_EVENT_LIST, POLL_INTERVAL, POLLING_OFF])
     outer = rng.randrange(256) if one_in(rng, 12) else PROACTIVE_COMMAND
-    parts = [with_length(flagged(rng, COMMAND_DETAILS), bytes([1, kind, 0])), devices(rng)]
+    parts = [tagged(rng, COMMAND_DETAILS, bytes([1, kind, 0])), devices(rng)]
     if kind == TIMER_MANAGEMENT:
         timer = rng.randrange(256) if one_in(rng, 8) else rng.choice(timers or [1])
-        parts.append(with_length(flagged(rng, TIMER_IDENTIFIER), bytes([timer])))
+        parts.append(tagged(rng, TIMER_IDENTIFIER, bytes([timer])))
     return wrapped(rng, outer, parts, rng.choice([COMMAND_DETAILS, TIMER_IDENTIFIER]), True)
 
 
 def search(rng):
     """Inputs of find: a run, a tag number and an occurrence."""
-    tags = [rng.randint(0x01, 0x7E) for _ in range(2)]
-    parts = [with_length(flagged(rng, rng.choice(tags)), rng.randbytes(rng.randrange(4)))
-             for _ in range(rng.randrange(7))]
+    tags = [rng.randint(1, rng.choice([LAST_IN_ONE_BYTE, LAST_TAG])) for _ in range(2)]
+    parts = [tagged(rng, rng.choice(tags), rng.randbytes(rng.randrange(4))) for _ in range(rng.randrange(7))]
     if one_in(rng, 3):
         parts = vary(rng, parts, tags[0])
     if one_in(rng, 5):
         parts = lengthen(rng, parts) + parts
     run = b"".join(parts)
     run = damage(rng, run) if one_in(rng, 4) else run
-    tag = rng.choice([0x00, THREE_BYTES, tags[0] | COMPREHENSION, rng.randrange(256)]) if one_in(rng, 6) else tags[0]
+    others = [0, tags[0] ^ COMPREHENSION, tags[0] ^ 0x8000, tags[0] ^ rng.choice(OTHER_BITS), rng.randrange(256), rng.randrange(0x10000)]
+    tag = rng.choice(others) if one_in(rng, 6) else tags[0]
     return run, tag, rng.choice([0, 1, 1, 1, 1, 2, 2, 3])
 
 

@@ -3,9 +3,9 @@
 import random
 
 import draws
-from coding import (ALPHA_IDENTIFIER, COMPREHENSION, EVENT_DOWNLOAD, MENU_SELECTION, THREE_BYTES, TIMER_EXPIRATION,
-                    Refused, elements, open_outer, with_length)
-from draws import flagged, one_in
+from coding import (ALPHA_IDENTIFIER, COMPREHENSION, EVENT_DOWNLOAD, LAST_TAG, MENU_SELECTION, THREE_BYTES, TIMER_EXPIRATION,
+                    Refused, elements, open_outer, read_tag, with_length)
+from draws import OTHER_BITS, flagged, in_three_bytes, one_in, tagged
 from model import EVENT_OF_CODE
 
 SUBJECTS = {MENU_SELECTION: [1, 2, 127, 128, 255], TIMER_EXPIRATION: [0, 1, 8, 9],
@@ -44,22 +44,27 @@ def some_value(rng):
 
 
 def tag_of(rng, parts):
-    """A tag that stands there, or another."""
-    return rng.choice(parts)[0] if parts else rng.randint(0x01, 0x7E)
+    """The number of a tag that stands there, or another."""
+    return read_tag(rng.choice(parts), 0)[0] if parts else rng.randint(1, LAST_TAG)
 
 
 def first_of_other_length(rng, parts):
     """A tag that stands there stands before it too, with some other value."""
-    return [with_length(tag_of(rng, parts) ^ rng.choice([0, COMPREHENSION]), some_value(rng))] + parts
+    return [tagged(rng, tag_of(rng, parts), some_value(rng))] + parts
 
 
 def repeated(rng, parts):
     at = rng.randint(0, len(parts))
-    return parts[:at] + [with_length(tag_of(rng, parts), some_value(rng))] + parts[at:]
+    return parts[:at] + [tagged(rng, tag_of(rng, parts), some_value(rng))] + parts[at:]
+
+
+def turned(part):
+    at = 1 if part[0] == THREE_BYTES else 0
+    return part[:at] + bytes([part[at] ^ COMPREHENSION]) + part[at + 1:]
 
 
 def flag_turned(rng, parts):
-    return [bytes([part[0] ^ COMPREHENSION]) + part[1:] if one_in(rng, 2) else part for part in parts]
+    return [turned(part) if one_in(rng, 2) else part for part in parts]
 
 
 def barred(rng, parts):
@@ -70,13 +75,13 @@ def barred(rng, parts):
 def three_bytes(rng, parts):
     """A tag of three bytes before, between or behind the others, sometimes cut short."""
     at = rng.randint(0, len(parts))
-    whole = bytes([THREE_BYTES, rng.choice([0x00, 0x80, 0x7F])]) + with_length(tag_of(rng, parts), some_value(rng))
+    whole = in_three_bytes(rng, tag_of(rng, parts) | rng.choice([0, *OTHER_BITS]), some_value(rng))
     return parts[:at] + [whole[:rng.randint(1, 4)] if one_in(rng, 4) else whole] + parts[at:]
 
 
 def other_length_form(rng, parts):
     at, value = rng.randint(0, len(parts)), rng.choice([some_value(rng), rng.randbytes(0x7F), rng.randbytes(0x80)])
-    return parts[:at] + [bytes([tag_of(rng, parts)]) + other_form(rng, len(value)) + value] + parts[at:]
+    return parts[:at] + [tagged(rng, tag_of(rng, parts), b"")[:-1] + other_form(rng, len(value)) + value] + parts[at:]
 
 
 def filled_up(rng, parts):
@@ -90,7 +95,7 @@ def filled_up(rng, parts):
 
 def longest(rng, parts):
     at = rng.randint(0, len(parts))
-    return parts[:at] + [with_length(tag_of(rng, parts), rng.randbytes(LONGEST_VALUE))] + parts[at:]
+    return parts[:at] + [tagged(rng, tag_of(rng, parts), rng.randbytes(LONGEST_VALUE))] + parts[at:]
 
 
 CHANGES = [first_of_other_length, repeated, flag_turned, barred, three_bytes, other_length_form, filled_up]
@@ -132,10 +137,10 @@ def searched(rng):
             parts = taken_apart(whole_envelope(rng))[1]
         except Refused:
             parts = []
-        tag = tag_of(rng, parts) & ~COMPREHENSION
+        tag = tag_of(rng, parts)
         parts = rng.choice([*CHANGES, longest])(rng, parts)
         run = b"".join(parts)
-    tag = tag | rng.choice([0x0100, 0x7F00, 0xFF00]) if one_in(rng, 20) else tag
+    tag = tag | rng.choice([0x8000, *OTHER_BITS]) if one_in(rng, 20) else tag
     occurrence = rng.choice([0, 255, 256, 257, 65535]) if one_in(rng, 15) else occurrence
     return tag.to_bytes(2, "big") + occurrence.to_bytes(2, "big") + run
 

@@ -10,7 +10,7 @@ use lib.ListN.{length}
 use lib.Dec.{lit≤}
 use borrow.Author.Tests.{leb-true, leb-false}
 use Rattle.lists.specs.Tests.{_==_, _<?_, _≤?_}
-use Rattle.lists.specs.Lists.{in?}
+use Rattle.lists.specs.Lists.{some?, in?}
 use Rattle.lists.proofs.Ifs.{if-holds}
 use Rattle.rules.specs.declared.Len.{Len}
 use Rattle.rules.specs.declared.Len.the-variants.{Known, Bad}
@@ -28,6 +28,11 @@ tag-small t =
 -- the position past a tag fits (the last premise is what a slice of bytes tells of its length)
 pub tag-fits : (s : List ℕ) (at size t : ℕ) → at < length s → size ≡ tagSize t → length s * 1 < 2 ^ 63 → Fits w64 (at + size)
 tag-fits s at size t h e g = omega (arith, tag-small t)
+
+-- a tag that starts with 7F takes three bytes
+pub long-within : (s : List ℕ) (at k : ℕ) {first : ℕ} → first ≡ byte s at → first ≡ 0x7F → at + tagSize (byte s at) < length s → k < 3 → at + k < length s
+unfolding tagSize in? some?
+long-within s at k e q h j = let three : at + 3 < length s = subst (λ t. at + tagSize t < length s) (sym e ∙ q) h in omega arith
 
 -- what a length at a position says of where its value starts
 unfoldable LengthEnds : List ℕ → ℕ → Len → Type 0
@@ -51,6 +56,11 @@ length-past s at p q = subst (LengthEnds s at) (sym p ∙ q) (length-ends s at) 
 pub length-within : (s : List ℕ) (at : ℕ) {l : Len} {n b : ℕ} → l ≡ lengthAt s at → l ≡ Known n b → b ≤ length s
 unfolding LengthEnds
 length-within s at p q = subst (LengthEnds s at) (sym p ∙ q) (length-ends s at) .1
+
+-- a tag with a length behind it ends within the bytes
+pub tag-within : (s : List ℕ) (at : ℕ) {size first : ℕ} {l : Len} {n b : ℕ} → size ≡ tagSize first → first ≡ byte s at → l ≡ lengthAt s (at + size) → l ≡ Known n b
+    → at + tagSize (byte s at) < length s
+tag-within s at {size} e f p q = let past = length-past s (at + size) p q in let within = length-within s (at + size) p q in rw (sym f, sym e) (omega arith)
 
 -- the position past a value fits
 pub length-fits : (s : List ℕ) (at : ℕ) {l : Len} {n b : ℕ} → l ≡ lengthAt s at → l ≡ Known n b → Fits w8 n → length s * 1 < 2 ^ 63 → Fits w64 (b + n)

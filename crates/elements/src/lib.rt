@@ -3,9 +3,9 @@
 use rules::Element;
 use rules::Len;
 ghost use mathlib.Core.Path.{_≡_};
-ghost use Prim.Native.Nat.{_<_};
+ghost use Prim.Native.Nat.{_+_, _<_};
 ghost use lib.ListN.{length};
-ghost use Rattle.rules.specs.Bytes.{tagSize, tagNumber, lengthAt, elementAt};
+ghost use Rattle.rules.specs.Bytes.{byte, tagSize, tagNumber, lengthAt, elementAt};
 
 // How many bytes a tag with this first byte takes; 0 if it starts none.
 fn tag_size(first: u8) -> usize
@@ -20,14 +20,16 @@ fn tag_size(first: u8) -> usize
     }
 }
 
-// The number that the tag at a position is compared by; 0, which is never looked for, for a three-byte tag.
+// The number that the tag at a position is compared by: the bits of one byte, or of two behind 7F, without the comprehension flag.
 fn tag_number(s: &[u8], at: usize) -> u16
-    requires { ⌜ at < length (now s) ⌝ }
+    requires { ⌜ at + tagSize (byte (now s) at) < length (now s) ⌝ }
     ensures { λ r. ⌜ r ≡ tagNumber (now (s .entry)) at ⌝ }
 {
     let first = s[at];
     if first == 0x7F {
-        0
+        let high = (s[at + 1] % 128) as u16;
+        let low = s[at + 2] as u16;
+        high * 256 + low
     } else {
         (first % 128) as u16
     }

@@ -1,6 +1,6 @@
--- Document 01's table of proved cases and its easy slips, and those of polling and rounds, hold, by computation. Assumes nothing.
+-- Document 01's table of proved cases and its easy slips, and those of polling, rounds and tags, hold, by computation. Assumes nothing.
 use mathlib.Core.Path.{refl}
-use Rattle.rules.specs.Cases.{Cases, Slips, Polled, Rounds}
+use Rattle.rules.specs.Cases.{Cases, Slips, Polled, Rounds, Tags}
 use Rattle.rules.proofs.Compute.{compute}
 
 pub cases : Cases
@@ -102,4 +102,37 @@ rounds-cases =
       refused-leaves = refl;
       not-as-it-opens = refl;
       used-at-its-turn = refl;
+    }
+
+pub tags-cases : Tags
+unfolding compute
+tags-cases =
+    record {
+      in-three-bytes = refl;
+      flag-ignored = refl;
+      another = refl;
+      high-bits = refl;
+      long-first = refl;
+      short-second = refl;
+      no-third = refl;
+      find-90 = refl;
+      find-FF = refl;
+      find-7F = refl;
+      find-7FFF = refl;
+      find-8000 = refl;
+      zero-element = refl;
+      find-0 = refl;
+      chosen-long = refl;
+      chosen-first = refl;
+      not-the-item = refl;
+      long-help = refl;
+      long-item-empty = refl;
+      long-details = refl;
+      long-details-of-menu = refl;
+      long-timer = refl;
+      long-timer-of-another = refl;
+      outer-7F = refl;
+      outer-no-longer = refl;
+      menu-short = refl;
+      menu-long = refl;
     }

@@ -1,5 +1,5 @@
--- Runs of elements and outer tags (document 01, "Reading envelopes and commands").
-use Prim.Native.Nat.{ℕ, zero, suc, _+_, _-_, _%_}
+-- Runs of elements and outer tags (document 01, "Reading envelopes and commands"; document 02, Ask 3).
+use Prim.Native.Nat.{ℕ, zero, suc, _+_, _-_, _*_, _%_}
 use mathlib.Core.Bool.{Bool, true, false}
 use mathlib.Core.List.{List, [], _∷_}
 use lib.ListN.{length, getD, take, drop}
@@ -24,9 +24,10 @@ byte s at = getD s at 0
 unfoldable pub tagSize : (first : ℕ) → ℕ
 tagSize first = if in? first (0x00 ∷ 0x80 ∷ 0xFF ∷ []) then 0 else if first == 0x7F then 3 else 1
 
--- the number that the tag at a position is compared by: a one-byte tag's without bit 8; a three-byte tag matches none, and gets 0
+-- the number that the tag at a position is compared by, the same in either form (document 02, Ask 3): the low seven bits of a one-byte tag, or
+-- the 15 bits behind 7F; bit 8 of the byte in which they begin is the comprehension flag
 unfoldable pub tagNumber : List ℕ → (at : ℕ) → ℕ
-tagNumber s at = if byte s at == 0x7F then 0 else byte s at % 128
+tagNumber s at = if byte s at == 0x7F then byte s (at + 1) % 128 * 256 + byte s (at + 2) else byte s at % 128
 
 -- the length behind 81 at a position: one byte, 80..FF
 unfoldable pub longLength : List ℕ → (at : ℕ) → Len
@@ -92,12 +93,12 @@ firstValue (e ∷ l) = At (e .value)
 unfoldable pub occurring : (tag occurrence : ℕ) → List Tagged → Found
 occurring tag occurrence l = firstValue (drop (occurrence - 1) (keep (λ (e : Tagged). e .number == tag) l))
 
--- Finding an element by tag number (01..7E) and occurrence, among those that can be read; what follows the element found is not judged.
+-- Finding an element by tag number (1..7FFF) and occurrence, among those that can be read; what follows the element found is not judged.
 unfoldable pub found : List ℕ → (tag occurrence : ℕ) → Found
 found s tag occurrence =
     if occurrence == 0 then Nothing else
     if tag == 0 then Nothing else
-    if 0x7E <? tag then Nothing else occurring tag occurrence (runAt s 0 .elements)
+    if 0x7FFF <? tag then Nothing else occurring tag occurrence (runAt s 0 .elements)
 
 -- the yes or no of a search
 unfoldable pub isFound : Found → Bool

@@ -121,7 +121,7 @@ found-inside s tag n e q =
     subst (FoundIn s) (sym e ∙ q)
     (if-holds (FoundIn s) (n == 0) (λ _. tt)
     (λ _. if-holds (FoundIn s) (tag == 0) (λ _. tt)
-    (λ _. if-holds (FoundIn s) (0x7E <? tag) (λ _. tt) (λ _. occurring-within s tag n _ (run-within (suc (length s)) s 0)))))
+    (λ _. if-holds (FoundIn s) (0x7FFF <? tag) (λ _. tt) (λ _. occurring-within s tag n _ (run-within (suc (length s)) s 0)))))
 
 -- the position past what is found fits
 pub found-fits : (s : List ℕ) (tag n : ℕ) {f : Found} {p : Span} → f ≡ found s tag n → f ≡ At p → length s * 1 < 2 ^ 63 → Fits w64 (p .start + p .len)

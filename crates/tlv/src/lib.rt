@@ -21,7 +21,7 @@ pub fn locate(s: &[u8], tag: u16, occurrence: usize) -> Found
     if tag == 0 {
         return Found::Nothing;
     }
-    if 0x7E < tag {
+    if 0x7FFF < tag {
         return Found::Nothing;
     }
     let mut at: usize = 0;

@@ -3,7 +3,7 @@
 use borrow.Author.Needs.{needs}
 use Rattle.lists.proofs.Picks.{picks, by-call₂, by-case₂}
 use Rattle.rules.specs.Bytes.{elementAt, elementBy, valued}
-use Rattle.elements.proofs.Ends.{tag-fits, length-fits}
+use Rattle.elements.proofs.Ends.{tag-fits, tag-within, length-fits}
 use Rattle.elements.proofs.element_at.Statement.{statement}
 use Rattle.elements.proofs.element_at.Tie as tie
 
@@ -41,7 +41,7 @@ unfolding elementAt elementBy valued
 returns-3 c = search (picks, by-call₂ elementBy, by-case₂ valued, needs) depth 8
 
 tag-number-requires : tie.Need-tag-number-requires
-tag-number-requires c κs = search needs
+tag-number-requires c κs = search (tag-within, needs)
 
 enum-told : tie.Need-enum-told
 enum-told c = search needs

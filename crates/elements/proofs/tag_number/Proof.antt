@@ -1,13 +1,40 @@
 -- `elements::tag_number` gives the number that a tag is compared by.
 -- Assumes nothing.
+use Prim.Native.Nat.{_+_}
+use native.Mathlib.Omega.{arith}
 use borrow.Author.Needs.{needs}
 use Rattle.lists.proofs.Picks.{picks}
 use Rattle.rules.specs.Bytes.{tagNumber}
+use Rattle.elements.proofs.Ends.{long-within}
 use Rattle.elements.proofs.tag_number.Statement.{statement}
 use Rattle.elements.proofs.tag_number.Tie as tie
 
 shared-slice-read-first : tie.Need-shared-slice-read-first
 shared-slice-read-first c = search needs
+
+add-high : tie.Need-add-high
+add-high c = search needs
+
+shared-slice-read-high : tie.Need-shared-slice-read-high
+shared-slice-read-high c = search (long-within, needs)
+
+cast-high : tie.Need-cast-high
+cast-high c = search needs
+
+add-low : tie.Need-add-low
+add-low c = search needs
+
+shared-slice-read-low : tie.Need-shared-slice-read-low
+shared-slice-read-low c = search (long-within, needs)
+
+cast-low : tie.Need-cast-low
+cast-low c = omega (arith, c .shared-slice-known3 .given (c .before .before .before .before .args .at + 2))
+
+mul-result : tie.Need-mul-result
+mul-result c = search needs
+
+add-result : tie.Need-add-result
+add-result c = omega (arith, c .shared-slice-known3 .given (c .before .before .before .before .args .at + 2))
 
 cast-result : tie.Need-cast-result
 cast-result c = search needs
@@ -21,4 +48,18 @@ unfolding tagNumber
 returns-2 c = search (picks, needs) depth 8
 
 pub tag-number-spec : {M : Type 1} → statement M
-tag-number-spec = tie.close (tie.spec shared-slice-read-first cast-result returns returns-2)
+tag-number-spec =
+    tie.close
+    (tie.spec
+    shared-slice-read-first
+    add-high
+    shared-slice-read-high
+    cast-high
+    add-low
+    shared-slice-read-low
+    cast-low
+    mul-result
+    add-result
+    cast-result
+    returns
+    returns-2)
