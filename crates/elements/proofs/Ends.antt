@@ -8,7 +8,7 @@ use mathlib.Core.Path.{_≡_, refl, sym, _∙_, subst}
 use mathlib.Core.List.{List, [], _∷_}
 use lib.ListN.{length}
 use lib.Dec.{lit≤}
-use borrow.Author.Tests.{leb-true, leb-false}
+use borrow.Author.Tests.{le-leb, leb-true, leb-false}
 use Rattle.lists.specs.Tests.{_==_, _<?_, _≤?_}
 use Rattle.lists.specs.Lists.{some?, in?}
 use Rattle.lists.proofs.Ifs.{if-holds}
@@ -34,6 +34,11 @@ pub long-within : (s : List ℕ) (at k : ℕ) {first : ℕ} → first ≡ byte s
 unfolding tagSize in? some?
 long-within s at k e q h j = let three : at + 3 < length s = subst (λ t. at + tagSize t < length s) (sym e ∙ q) h in omega arith
 
+-- where the bytes have ended no length stands
+pub no-length : (s : List ℕ) (number at : ℕ) → length s ≤ at → Malformed ≡ valued s number (lengthAt s at)
+unfolding lengthAt valued
+no-length s number at h = rw (le-leb (length s) at h) refl
+
 -- what a length at a position says of where its value starts
 unfoldable LengthEnds : List ℕ → ℕ → Len → Type 0
 LengthEnds s at (Known n b) = (at < b) × (b ≤ length s)
@@ -56,11 +61,6 @@ length-past s at p q = subst (LengthEnds s at) (sym p ∙ q) (length-ends s at) 
 pub length-within : (s : List ℕ) (at : ℕ) {l : Len} {n b : ℕ} → l ≡ lengthAt s at → l ≡ Known n b → b ≤ length s
 unfolding LengthEnds
 length-within s at p q = subst (LengthEnds s at) (sym p ∙ q) (length-ends s at) .1
-
--- a tag with a length behind it ends within the bytes
-pub tag-within : (s : List ℕ) (at : ℕ) {size first : ℕ} {l : Len} {n b : ℕ} → size ≡ tagSize first → first ≡ byte s at → l ≡ lengthAt s (at + size) → l ≡ Known n b
-    → at + tagSize (byte s at) < length s
-tag-within s at {size} e f p q = let past = length-past s (at + size) p q in let within = length-within s (at + size) p q in rw (sym f, sym e) (omega arith)
 
 -- the position past a value fits
 pub length-fits : (s : List ℕ) (at : ℕ) {l : Len} {n b : ℕ} → l ≡ lengthAt s at → l ≡ Known n b → Fits w8 n → length s * 1 < 2 ^ 63 → Fits w64 (b + n)

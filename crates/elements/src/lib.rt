@@ -20,18 +20,18 @@ fn tag_size(first: u8) -> usize
     }
 }
 
-// The number that the tag at a position is compared by: the bits of one byte, or of two behind 7F, without the comprehension flag.
+// The number that the tag at a position is compared by, in either form: what stands in one byte, or in two behind 7F, without the flag.
 fn tag_number(s: &[u8], at: usize) -> u16
     requires { ⌜ at + tagSize (byte (now s) at) < length (now s) ⌝ }
     ensures { λ r. ⌜ r ≡ tagNumber (now (s .entry)) at ⌝ }
 {
     let first = s[at];
     if first == 0x7F {
-        let high = (s[at + 1] % 128) as u16;
+        let high = s[at + 1] as u16;
         let low = s[at + 2] as u16;
-        high * 256 + low
+        (high * 256 + low) % 0x8000
     } else {
-        (first % 128) as u16
+        (first % 0x80) as u16
     }
 }
 
@@ -77,7 +77,12 @@ pub fn element_at(s: &[u8], at: usize) -> Element
     if size == 0 {
         return Element::Malformed;
     }
-    let l = length_at(s, at + size);
+    let behind = at + size;
+    if s.len() <= behind {
+        return Element::Malformed;
+    }
+    let number = tag_number(s, at);
+    let l = length_at(s, behind);
     match l {
         Len::Known { len, next } => {
             let n = len as usize;
@@ -86,7 +91,7 @@ pub fn element_at(s: &[u8], at: usize) -> Element
                 return Element::Malformed;
             }
             Element::Whole {
-                number: tag_number(s, at),
+                number,
                 start: next,
                 len: n,
                 next: past,

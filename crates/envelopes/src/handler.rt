@@ -1,6 +1,8 @@
 // The handler's content, and whether the bytes of an envelope have one. What an envelope says is not made for it, so that `decide` has
 // one caller, the card's, and stands in its code.
 use crate::has_devices;
+use crate::is_recognized;
+use crate::needed;
 use rules::Found;
 use rules::Outer;
 use rules::Span;
@@ -8,31 +10,7 @@ ghost use mathlib.Core.Path.{_≡_};
 ghost use Rattle.rules.specs.Bytes.{found};
 ghost use Rattle.rules.specs.Envelopes.{isSized, envelopeBy, badEnvelope};
 ghost use Rattle.rules.specs.Readers.{LocatesContent, GivesContent};
-ghost use Rattle.envelopes.specs.Judged.{neededBy, isRecognized, isBadHelp};
-
-// The element of one byte that a recognized envelope with this outer tag needs.
-fn needed(tag: u8) -> u16
-    ensures { λ r. ⌜ r ≡ neededBy tag ⌝ }
-{
-    match tag {
-        0xD3 => 0x10,
-        0xD6 => 0x19,
-        _ => 0x24,
-    }
-}
-
-// Whether an envelope with this outer tag is recognized.
-fn is_recognized(tag: u8) -> bool
-    ensures { λ r. ⌜ r ≡ isRecognized tag ⌝ }
-{
-    match tag {
-        0xD3 => true,
-        0xD4 => true,
-        0xD6 => true,
-        0xD7 => true,
-        _ => false,
-    }
-}
+ghost use Rattle.envelopes.specs.Judged.{isBadHelp};
 
 // Whether an element is there, with its one byte.
 fn has_byte(s: &[u8], element: u16) -> bool

@@ -12,8 +12,33 @@ use rules::Help;
 use rules::Outer;
 ghost use mathlib.Core.Path.{_≡_};
 ghost use Rattle.rules.specs.Bytes.{found};
-ghost use Rattle.rules.specs.Envelopes.{isSized, oneByte, helpIn, envelopeBy, badEnvelope, typeIn, commandBy};
+ghost use Rattle.rules.specs.Envelopes.{isSized, oneByte, helpIn, selection, envelopeBy, badEnvelope, typeIn, commandBy};
 ghost use Rattle.rules.specs.Readers.{ReadsEnvelope, ReadsCommand};
+ghost use Rattle.envelopes.specs.Judged.{isRecognized, neededBy, namedBy};
+
+// The element of one byte that a recognized envelope with this outer tag needs.
+fn needed(tag: u8) -> u16
+    ensures { λ r. ⌜ r ≡ neededBy tag ⌝ }
+{
+    match tag {
+        0xD3 => 0x10,
+        0xD6 => 0x19,
+        _ => 0x24,
+    }
+}
+
+// Whether an envelope with this outer tag is recognized.
+fn is_recognized(tag: u8) -> bool
+    ensures { λ r. ⌜ r ≡ isRecognized tag ⌝ }
+{
+    match tag {
+        0xD3 => true,
+        0xD4 => true,
+        0xD6 => true,
+        0xD7 => true,
+        _ => false,
+    }
+}
 
 // Whether device identities are there, with their two bytes.
 fn has_devices(s: &[u8]) -> bool
@@ -61,66 +86,26 @@ fn help(s: &[u8]) -> Help
     }
 }
 
-// Menu selection: device identities, an item identifier, perhaps a help request.
-fn menu(s: &[u8]) -> Envelope
-    ensures { λ r. ⌜ r ≡ envelopeBy 0xD3 (now (s .entry)) ⌝ }
+// A menu selection of this item: a choice, or help where it is asked for.
+fn selected(s: &[u8], item: u8) -> Envelope
+    ensures { λ r. ⌜ r ≡ selection (helpIn (found (now (s .entry)) 0x15 1)) item ⌝ }
 {
-    if has_devices(s) {
-        let b = only_byte(s, 0x10);
-        match b {
-            Byte::One(item) => {
-                let h = help(s);
-                match h {
-                    Help::Asked => Envelope::Menu { item, help: true },
-                    Help::Silent => Envelope::Menu { item, help: false },
-                    Help::Bad => Envelope::Malformed,
-                }
-            }
-            Byte::Other => Envelope::Malformed,
-        }
-    } else {
-        Envelope::Malformed
+    let h = help(s);
+    match h {
+        Help::Asked => Envelope::Menu { item, help: true },
+        Help::Silent => Envelope::Menu { item, help: false },
+        Help::Bad => Envelope::Malformed,
     }
 }
 
-// Call control: device identities.
-fn call(s: &[u8]) -> Envelope
-    ensures { λ r. ⌜ r ≡ envelopeBy 0xD4 (now (s .entry)) ⌝ }
+// What an envelope says by the byte of the element that it needs: an item, an event code, a timer.
+fn named(tag: u8, s: &[u8], byte: u8) -> Envelope
+    ensures { λ r. ⌜ r ≡ namedBy tag (now (s .entry)) byte ⌝ }
 {
-    if has_devices(s) {
-        Envelope::Call
-    } else {
-        Envelope::Malformed
-    }
-}
-
-// Event download: device identities and an event list of one code.
-fn download(s: &[u8]) -> Envelope
-    ensures { λ r. ⌜ r ≡ envelopeBy 0xD6 (now (s .entry)) ⌝ }
-{
-    if has_devices(s) {
-        let b = only_byte(s, 0x19);
-        match b {
-            Byte::One(code) => Envelope::Download { code },
-            Byte::Other => Envelope::Malformed,
-        }
-    } else {
-        Envelope::Malformed
-    }
-}
-
-// Timer expiration: device identities and a timer identifier.
-fn expiry(s: &[u8]) -> Envelope
-    ensures { λ r. ⌜ r ≡ envelopeBy 0xD7 (now (s .entry)) ⌝ }
-{
-    if has_devices(s) {
-        let b = only_byte(s, 0x24);
-        match b {
-            Byte::One(timer) => Envelope::Expiry { timer },
-            Byte::Other => Envelope::Malformed,
-        }
-    } else {
-        Envelope::Malformed
+    match tag {
+        0xD3 => selected(s, byte),
+        0xD6 => Envelope::Download { code: byte },
+        _ => Envelope::Expiry { timer: byte },
     }
 }
 
@@ -128,13 +113,20 @@ fn expiry(s: &[u8]) -> Envelope
 fn decide(tag: u8, s: &[u8]) -> Envelope
     ensures { λ r. ⌜ r ≡ envelopeBy tag (now (s .entry)) ⌝ }
 {
-    match tag {
-        0xD3 => menu(s),
-        0xD4 => call(s),
-        0xD6 => download(s),
-        0xD7 => expiry(s),
-        _ => Envelope::Unrecognized,
+    if is_recognized(tag) {
+        if has_devices(s) {
+            if tag == 0xD4 {
+                return Envelope::Call;
+            }
+            let b = only_byte(s, needed(tag));
+            match b {
+                Byte::One(byte) => return named(tag, s, byte),
+                Byte::Other => return Envelope::Malformed,
+            }
+        }
+        return Envelope::Malformed;
     }
+    Envelope::Unrecognized
 }
 
 // What the bytes of an envelope say.

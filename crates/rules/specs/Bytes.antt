@@ -24,10 +24,10 @@ byte s at = getD s at 0
 unfoldable pub tagSize : (first : ℕ) → ℕ
 tagSize first = if in? first (0x00 ∷ 0x80 ∷ 0xFF ∷ []) then 0 else if first == 0x7F then 3 else 1
 
--- the number that the tag at a position is compared by, the same in either form (document 02, Ask 3): the low seven bits of a one-byte tag, or
--- the 15 bits behind 7F; bit 8 of the byte in which they begin is the comprehension flag
+-- the number that the tag at a position is compared by, the same object in either form (document 02, Ask 3): the low seven bits of one byte, or
+-- the low 15 of the two behind 7F; the bit above them, the comprehension flag, is ignored
 unfoldable pub tagNumber : List ℕ → (at : ℕ) → ℕ
-tagNumber s at = if byte s at == 0x7F then byte s (at + 1) % 128 * 256 + byte s (at + 2) else byte s at % 128
+tagNumber s at = if byte s at == 0x7F then (byte s (at + 1) * 256 + byte s (at + 2)) % 0x8000 else byte s at % 0x80
 
 -- the length behind 81 at a position: one byte, 80..FF
 unfoldable pub longLength : List ℕ → (at : ℕ) → Len

@@ -19,7 +19,7 @@ shared-slice-read-high : tie.Need-shared-slice-read-high
 shared-slice-read-high c = search (long-within, needs)
 
 cast-high : tie.Need-cast-high
-cast-high c = search needs
+cast-high c = omega (arith, c .shared-slice-known2 .given (c .before .before .before .args .at + 1))
 
 add-low : tie.Need-add-low
 add-low c = search needs
@@ -31,10 +31,10 @@ cast-low : tie.Need-cast-low
 cast-low c = omega (arith, c .shared-slice-known3 .given (c .before .before .before .before .args .at + 2))
 
 mul-result : tie.Need-mul-result
-mul-result c = search needs
+mul-result c = omega (arith, c .before .shared-slice-known2 .given (c .before .before .before .before .args .at + 1))
 
 add-result : tie.Need-add-result
-add-result c = omega (arith, c .shared-slice-known3 .given (c .before .before .before .before .args .at + 2))
+add-result c = omega (arith, c .before .shared-slice-known2 .given (c .before .before .before .before .args .at + 1), c .shared-slice-known3 .given (c .before .before .before .before .args .at + 2))
 
 cast-result : tie.Need-cast-result
 cast-result c = search needs

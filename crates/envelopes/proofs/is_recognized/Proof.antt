@@ -1,10 +1,10 @@
--- `envelopes::handler::is_recognized` tells which outer tags are read.
+-- `envelopes::is_recognized` tells which outer tags are read.
 -- Assumes nothing.
 use Rattle.lists.proofs.Picks.{picks}
 use Rattle.envelopes.specs.Judged.{isRecognized}
 use borrow.Author.Needs.{needs}
-use Rattle.envelopes.proofs.handler.is_recognized.Statement.{statement}
-use Rattle.envelopes.proofs.handler.is_recognized.Tie as tie
+use Rattle.envelopes.proofs.is_recognized.Statement.{statement}
+use Rattle.envelopes.proofs.is_recognized.Tie as tie
 
 returns : tie.Need-returns
 unfolding isRecognized

@@ -1,10 +1,10 @@
--- `envelopes::handler::needed` gives the element that an outer tag needs.
+-- `envelopes::needed` gives the element that an outer tag needs.
 -- Assumes nothing.
 use Rattle.lists.proofs.Picks.{picks}
 use Rattle.envelopes.specs.Judged.{neededBy}
 use borrow.Author.Needs.{needs}
-use Rattle.envelopes.proofs.handler.needed.Statement.{statement}
-use Rattle.envelopes.proofs.handler.needed.Tie as tie
+use Rattle.envelopes.proofs.needed.Statement.{statement}
+use Rattle.envelopes.proofs.needed.Tie as tie
 
 returns : tie.Need-returns
 unfolding neededBy
