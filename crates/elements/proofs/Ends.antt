@@ -4,11 +4,11 @@ use Prim.Native.Nat.{ℕ, _+_, _-_, _*_, _^_, _≤_, _<_}
 use native.Mathlib.Omega.{arith}
 use mir.Val.{Fits}
 use mir.Syntax.{w8, w64}
-use mathlib.Core.Path.{_≡_, refl, sym, _∙_, subst}
+use mathlib.Core.Path.{_≡_, refl, sym, ap, _∙_, subst}
 use mathlib.Core.List.{List, [], _∷_}
 use lib.ListN.{length}
 use lib.Dec.{lit≤}
-use borrow.Author.Tests.{le-leb, leb-true, leb-false}
+use borrow.Author.Tests.{eqb-true, le-leb, leb-true, leb-false}
 use Rattle.lists.specs.Tests.{_==_, _<?_, _≤?_}
 use Rattle.lists.specs.Lists.{some?, in?}
 use Rattle.lists.proofs.Ifs.{if-holds}
@@ -29,10 +29,17 @@ tag-small t =
 pub tag-fits : (s : List ℕ) (at size t : ℕ) → at < length s → size ≡ tagSize t → length s * 1 < 2 ^ 63 → Fits w64 (at + size)
 tag-fits s at size t h e g = omega (arith, tag-small t)
 
--- a tag that starts with 7F takes three bytes
-pub long-within : (s : List ℕ) (at k : ℕ) {first : ℕ} → first ≡ byte s at → first ≡ 0x7F → at + tagSize (byte s at) < length s → k < 3 → at + k < length s
+-- a tag takes three bytes if it starts with 7F, and only then
+pub starts-long : (t size : ℕ) → size ≡ tagSize t → size ≡ 3 → t ≡ 0x7F
+unfolding tagSize
+starts-long t size e q =
+    if-holds (λ n. n ≡ 3 → t ≡ 0x7F) (in? t (0x00 ∷ 0x80 ∷ 0xFF ∷ [])) (λ _ z. absurd (omega arith))
+    (λ _. if-holds (λ n. n ≡ 3 → t ≡ 0x7F) (t == 0x7F) (λ h _. eqb-true t 0x7F h) (λ _ z. absurd (omega arith)))
+    (sym e ∙ q)
+
+pub starts-short : (t size : ℕ) → size ≡ tagSize t → (size ≡ 3 → ⊥) → t ≡ 0x7F → ⊥
 unfolding tagSize in? some?
-long-within s at k e q h j = let three : at + 3 < length s = subst (λ t. at + tagSize t < length s) (sym e ∙ q) h in omega arith
+starts-short t size e n h = n (e ∙ ap tagSize h)
 
 -- where the bytes have ended no length stands
 pub no-length : (s : List ℕ) (number at : ℕ) → length s ≤ at → Malformed ≡ valued s number (lengthAt s at)

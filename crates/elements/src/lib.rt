@@ -20,18 +20,17 @@ fn tag_size(first: u8) -> usize
     }
 }
 
-// The number that the tag at a position is compared by, in either form: what stands in one byte, or in two behind 7F, without the flag.
-fn tag_number(s: &[u8], at: usize) -> u16
-    requires { ⌜ at + tagSize (byte (now s) at) < length (now s) ⌝ }
+// The number that the tag at a position, of this size, is compared by: what stands in one byte, or in two behind 7F, without the flag.
+fn tag_number(s: &[u8], at: usize, size: usize) -> u16
+    requires { ⌜ (size ≡ tagSize (byte (now s) at)) × (at + size < length (now s)) ⌝ }
     ensures { λ r. ⌜ r ≡ tagNumber (now (s .entry)) at ⌝ }
 {
-    let first = s[at];
-    if first == 0x7F {
+    if size == 3 {
         let high = s[at + 1] as u16;
         let low = s[at + 2] as u16;
         (high * 256 + low) % 0x8000
     } else {
-        (first % 0x80) as u16
+        (s[at] % 0x80) as u16
     }
 }
 
@@ -81,7 +80,7 @@ pub fn element_at(s: &[u8], at: usize) -> Element
     if s.len() <= behind {
         return Element::Malformed;
     }
-    let number = tag_number(s, at);
+    let number = tag_number(s, at, size);
     let l = length_at(s, behind);
     match l {
         Len::Known { len, next } => {
