@@ -126,6 +126,7 @@ TAGS = [0x0000, 0x0001, 0x0010, 0x007E, 0x007F, 0x0080, 0x0090, 0x00FF, 0x0100, 
 def tags():
     """Each of some tag numbers, and what its flag would make of it, sought in runs that have them all, in either form and in both."""
     script = Script(7)
+    script.fresh(b"")
     for _ in range(8):
         run = b"".join(draws.tagged(script.rng, tag, bytes([at])) for at, tag in enumerate(script.rng.sample(TAGS * 2, 2 * len(TAGS))))
         for tag in TAGS:

@@ -10,6 +10,8 @@ TITLES = [b"Pick list", b"Crate label", b"Chairs", b"A"]
 LONG_VALUES = [0x7E, 0x7F, 0x80, 0x81, 0xC0]
 LAST_IN_ONE_BYTE = 0x7E
 OTHER_BITS = [0x0080, 0x0100, 0x4000, 0x7F00]
+TRACKING_AREA = 0x7D    # Wireshark reads its value, whatever the length, and finds it malformed
+OTHER_TAGS = [tag for tag in range(LAST_IN_ONE_BYTE + 1) if tag != TRACKING_AREA]
 
 
 def one_in(rng, many):
@@ -41,7 +43,7 @@ def tagged(rng, tag, value):
 
 def odd_element(rng, tag):
     """An element beside the needed ones: the same tag again, one that is like it in its last byte, help or any other."""
-    odd = rng.choice([tag, tag | rng.choice(OTHER_BITS), HELP_REQUEST, rng.randint(0, LAST_IN_ONE_BYTE)])
+    odd = rng.choice([tag, tag | rng.choice(OTHER_BITS), HELP_REQUEST, rng.choice(OTHER_TAGS)])
     return tagged(rng, odd, rng.randbytes(rng.choice([0, 1, 1, 2, 3])))
 
 
