@@ -1,2 +1,2 @@
--- What decides whether an envelope is malformed.
+-- What decides what an envelope says, and whether it is malformed.
 pub mod Judged

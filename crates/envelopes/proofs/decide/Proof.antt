@@ -2,8 +2,6 @@
 -- Assumes nothing.
 use borrow.Author.Needs.{needs}
 use Rattle.lists.proofs.Picks.{picks}
-use Rattle.rules.specs.declared.Envelope.the-variants.{Malformed}
-use Rattle.envelopes.specs.Judged.{namedBy}
 use Rattle.envelopes.proofs.Says.{by-one, by-other}
 use Rattle.envelopes.proofs.Judged.{by-said, by-needed}
 use Rattle.envelopes.proofs.decide.Statement.{statement}
@@ -16,7 +14,7 @@ has-devices-requires : tie.Need-has-devices-requires
 has-devices-requires c κs = search needs
 
 returns : tie.Need-returns
-returns c = search (by-said, picks, by-needed, by-one, by-other, needs) depth 10
+returns c = search (by-said, picks, needs) depth 8
 
 needed-requires : tie.Need-needed-requires
 needed-requires c κs = search needs
@@ -40,10 +38,10 @@ returns-3 : tie.Need-returns-3
 returns-3 c = search (by-said, picks, by-needed, by-one, by-other, needs) depth 10
 
 returns-4 : tie.Need-returns-4
-returns-4 c = search (by-said, picks, by-needed, by-one, by-other, needs) depth 10
+returns-4 c = search (by-said, picks, needs) depth 8
 
 returns-5 : tie.Need-returns-5
-returns-5 c = search (by-said, picks, by-needed, by-one, by-other, needs) depth 10
+returns-5 c = search (by-said, picks, needs) depth 8
 
 pub decide-spec : {M : Type 1} → statement M
 decide-spec =

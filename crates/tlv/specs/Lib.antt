@@ -1,0 +1,2 @@
+-- Runs of elements as they may be written, each tag in either form.
+pub mod Written
