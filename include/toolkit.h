@@ -337,8 +337,8 @@ struct toolkit_answer toolkit_system_command(struct toolkit_card *card, uint8_t 
 /* The terminal's response ends the outstanding command. Refusal 19. */
 struct toolkit_answer toolkit_response(struct toolkit_card *card);
 
-/* Where the value of an element stands in a run of elements: by its tag number (1 to 7E hex, without the comprehension flag) and its
-   occurrence, counted from 1. */
+/* Where the value of an element stands in a run of elements: by its tag number (1 to 7FFF hex: the bits of a tag of one byte, or of the two
+   behind 7F, without the comprehension flag) and its occurrence, counted from 1 over both forms of tag. */
 struct toolkit_spot toolkit_find(const void *run, size_t run_len, uint16_t tag, size_t occurrence);
 
 /* Where the handler's content stands in an envelope: what follows its length. One that is malformed has none. */
