@@ -1,6 +1,7 @@
 -- Document 01's table of proved cases and its easy slips, and those of polling, rounds and tags, hold, by computation. Assumes nothing.
 use mathlib.Core.Path.{refl}
-use Rattle.rules.specs.Cases.{Cases, Slips, Polled, Rounds, Tags}
+use Rattle.rules.specs.Cases.{Cases, Slips, Polled, Rounds}
+use Rattle.rules.specs.TagCases.{Tags}
 use Rattle.rules.proofs.Compute.{compute}
 
 pub cases : Cases

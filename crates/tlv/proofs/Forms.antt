@@ -5,8 +5,8 @@ use native.Mathlib.Omega.{arith}
 use mathlib.Core.Path.{_≡_, refl, sym, ap, _∙_}
 use mathlib.Core.Bool.{Bool, true, false}
 use mathlib.Core.List.{List, [], _∷_, _++_, map, append-assoc}
-use lib.ListN.{length, getD, take, drop, length-append, length-drop}
-use lib.Seq.{getD-drop, drop-drop, take-append-seam, drop-append-seam}
+use lib.ListN.{length, take, drop, length-append, length-drop}
+use lib.Seq.{take-append-seam}
 use borrow.Author.Tests.{le-leb, le-ltb, lt-leb, eq-eqb, ne-eqb}
 use borrow.Author.Needs.{needs}
 use Rattle.lists.specs.Tests.{if_then_else_, _==_, _<?_, _≤?_}
@@ -14,6 +14,7 @@ use Rattle.lists.specs.Lists.{Every, keep, gather, in?, some?}
 use Rattle.lists.proofs.Picks.{picks}
 use Rattle.lists.proofs.Among.{in-others, in-none}
 use Rattle.lists.proofs.Mapped.{map-keep, map-drop}
+use Rattle.lists.proofs.Parts.{getD-here, length-here, first-here, rest-here}
 use Rattle.rules.specs.declared.Len.the-variants.{Known}
 use Rattle.rules.specs.declared.Element.{Element}
 use Rattle.rules.specs.declared.Element.the-variants.{Whole}
@@ -24,20 +25,6 @@ use Rattle.rules.specs.Bytes.{byte, tagSize, tagNumber, longLength, lengthAt, v
 use Rattle.rules.specs.Commands.{lengthBytes}
 use Rattle.tlv.specs.Written.{Object, Written, Has, Writable, flag, tagBytes, elementBytes, runBytes, outerBytes, objects, valueOf, valueAt}
 use Rattle.tlv.proofs.Runs.{run-step}
-
--- BYTES AT A POSITION: those that stand from there on
-module _ (s : List ℕ) (at : ℕ) {l : List ℕ} (here : drop at s ≡ l) where
-  byte-here : (k : ℕ) → byte s (at + k) ≡ getD l k 0
-  byte-here k = sym (getD-drop at s k 0) ∙ ap (λ r. getD r k 0) here
-
-  length-here : at ≤ length s → length s ≡ at + length l
-  length-here h = omega (arith, length-drop at s, ap length here)
-
-rest-here : (s : List ℕ) (at : ℕ) (l r : List ℕ) → drop at s ≡ l ++ r → drop (at + length l) s ≡ r
-rest-here s at l r here = sym (drop-drop (length l) at s) ∙ ap (drop (length l)) here ∙ drop-append-seam l r
-
-first-here : (s : List ℕ) (at : ℕ) {x : ℕ} {l : List ℕ} → drop at s ≡ x ∷ l → byte s at ≡ x
-first-here s at here = let z : at ≡ at + 0 = omega arith in ap (byte s) z ∙ byte-here s at here 0
 
 -- A TAG, in either form
 record TagHere (s : List ℕ) (at size number : ℕ) : Type 0 where
@@ -52,16 +39,16 @@ tag-here : (s : List ℕ) (at : ℕ) (inThree f : Bool) (n : ℕ) (r : List ℕ)
     → TagHere s at (length (tagBytes inThree f n)) n
 unfolding Has tagBytes tagSize tagNumber in? some?
 tag-here s at true f n r h here =
-    let a : byte s at ≡ 0x7F = first-here s at here in
-    let b : byte s (at + 1) ≡ flag f + n / 256 = byte-here s at here 1 in
-    let c : byte s (at + 2) ≡ n % 256 = byte-here s at here 2 in
+    let a : byte s at ≡ 0x7F = first-here s at 0 here in
+    let b : byte s (at + 1) ≡ flag f + n / 256 = getD-here s at here 1 0 in
+    let c : byte s (at + 2) ≡ n % 256 = getD-here s at here 2 0 in
     record { sized = ap tagSize a; numbered = rw (a, b, c) (bits f) }
   where
     bits : (f : Bool) → ((flag f + n / 256) * 256 + n % 256) % 0x8000 ≡ n
     bits true = omega arith
     bits false = omega arith
 tag-here s at false f n r h here =
-    let a : byte s at ≡ flag f + n = first-here s at here in
+    let a : byte s at ≡ flag f + n = first-here s at 0 here in
     record { sized = ap tagSize a ∙ sym (size f (h .0) (h .1)); numbered = rw (a, ne-eqb (flag f + n) 0x7F (no-long f (h .0) (h .1))) (bits f (h .0) (h .1)) }
   where
     no-long : (f : Bool) → 1 ≤ n → n ≤ 0x7E → flag f + n ≡ 0x7F → ⊥
@@ -89,11 +76,11 @@ length-bytes s at n r h = go (n <? 0x80) refl
     go : (b : Bool) → (n <? 0x80) ≡ b → drop at s ≡ (if b then n ∷ [] else 0x81 ∷ n ∷ []) ++ r → lengthAt s at ≡ Known n (at + length (if b then n ∷ [] else 0x81 ∷ n ∷ []))
     go true e here =
         let l : (length s ≤? at) ≡ false = lt-leb (length s) at (omega (arith, length-drop at s, ap length here)) in
-        rw (l, first-here s at here, e) refl
+        rw (l, first-here s at 0 here, e) refl
     go false e here =
         let l : (length s ≤? at) ≡ false = lt-leb (length s) at (omega (arith, length-drop at s, ap length here)) in
         let m : (length s ≤? at + 1) ≡ false = lt-leb (length s) (at + 1) (omega (arith, length-drop at s, ap length here)) in
-        rw (l, first-here s at here, m, byte-here s at here 1, e) refl
+        rw (l, first-here s at 0 here, m, getD-here s at here 1 0, e) refl
 
 -- AN ELEMENT, and what follows it
 record ElementHere (s : List ℕ) (at : ℕ) (e : Written) (r : List ℕ) (start : ℕ) : Type 0 where
