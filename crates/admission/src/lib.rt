@@ -1,5 +1,7 @@
 // What an install may ask for: the refusals 2 to 6 for a raw request, and what it is granted.
 // Of the pairs that are requested, as many are looked at as the entry limit says.
+#![tactic(auto)]
+
 ghost use Rattle.std.specs.Prelude.{ℕ, ◌≤◌, ◌<◌, ◌≡◌, not, ◌&&◌, ◌||◌, length, drop};
 ghost use Rattle.lists.specs.Tests.{◌<?◌};
 ghost use Rattle.std.specs.Prelude.{◌==◌};

@@ -1,5 +1,7 @@
 // The answer of a call, one struct for every call, made of the refusal's number (0: none) and of what an accepted call tells.
 // What it holds of each answer stands in `rules`, specs/Held.antt.
+#![tactic(auto)]
+
 ghost use Rattle.std.specs.Prelude.{◌≡◌, false};
 ghost use Rattle.std.specs.Prelude.{if◌then◌else◌, ◌==◌};
 ghost use Rattle.rules.specs.Arrivals.{no_marks};

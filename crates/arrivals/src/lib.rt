@@ -1,5 +1,7 @@
 // What arrivals come to that needs less than the card: what arrives with an envelope, whom it is for as a set of applets, the round that it
 // opens and what turns leave of it; the answer, with the handlers available; and the desk after a profile.
+#![tactic(auto)]
+
 ghost use Rattle.std.specs.Prelude.{◌≡◌, true, [], ◌∷◌};
 ghost use Rattle.std.specs.Prelude.{if◌then◌else◌, ◌==◌};
 ghost use Rattle.sets.specs.Sets.{single, set_both};

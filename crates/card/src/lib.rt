@@ -1,5 +1,7 @@
 // The card by value, and every public call of document 01 as a method that hands the card back with the answer.
 // A call takes every input; of the card it takes for granted that a fresh card and calls have left it so.
+#![tactic(auto)]
+
 mod arriving;
 mod entries;
 mod fresh;

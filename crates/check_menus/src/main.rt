@@ -1,5 +1,7 @@
 // Menus that a card hands out, and items written by hand, read back: a line for each with the refusal, the title, the help mark and the items.
 // Below a handed-out menu stands, for each kind of damage, how many commands so damaged the reader refuses.
+#![tactic(auto)]
+
 mod damage;
 
 ghost use Rattle.std.specs.Prelude.{◌≤◌, length};

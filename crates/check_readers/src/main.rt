@@ -1,5 +1,7 @@
 // Reads lines `name: letter bytes` in upper hexadecimal and writes behind each name what the readers make of the bytes: e envelope, c command,
 // o outer element, f search (tag and occurrence, two bytes each, and the run), v event value (two bytes), d download code.
+#![tactic(auto)]
+
 ghost use Rattle.std.specs.Prelude.{◌≤◌, length};
 
 use bytes::scan::find;

@@ -1,5 +1,7 @@
 // The system commands, written at the front of a lent buffer: the menu, the event list, POLL INTERVAL and POLLING OFF.
 // The length stands before the value, so the bytes are counted first.
+#![tactic(auto)]
+
 ghost use Rattle.std.specs.Prelude.{◌≡◌, ◌∷◌, ◌+◌, ◌<◌, ◌≤◌, length};
 ghost use Rattle.std.specs.Prelude.{if◌then◌else◌, ◌==◌};
 ghost use Rattle.lists.specs.Lists.{some?};

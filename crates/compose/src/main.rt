@@ -1,5 +1,7 @@
 // Turns a script on standard input into records of the floor program on standard output.
 // It stops at the first bad line, with a message on standard error.
+#![tactic(auto)]
+
 ghost use Rattle.std.specs.Prelude.{◌≡◌, ◌≤◌, length};
 
 use libc::{STDERR_FILENO, STDIN_FILENO, STDOUT_FILENO};

@@ -1,5 +1,7 @@
 // Reads one length, and one element: a tag, a length and that many value bytes.
 // A position is an index into the caller's bytes.
+#![tactic(auto)]
+
 ghost use Rattle.std.specs.Prelude.{◌≡◌, ◌+◌, ◌<◌, length};
 ghost use Rattle.rules.specs.Bytes.{byte, tag_size, tag_number, length_at, element_at};
 

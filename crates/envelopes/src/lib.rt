@@ -1,5 +1,7 @@
 // What an envelope says, what a command given to send says, and the handler's content. The first occurrence of an element
 // counts, also when its length is not the one stated.
+#![tactic(auto)]
+
 mod handler;
 
 ghost use Rattle.std.specs.Prelude.{◌≡◌};

@@ -1,5 +1,7 @@
 // Event values and download codes: which event a number names, and what that allows.
 // What each answer means stands in `rules`, specs/Events.antt.
+#![tactic(auto)]
+
 ghost use Rattle.std.specs.Prelude.{◌≡◌, [], ◌∷◌};
 ghost use Rattle.rules.specs.Events.{kind_of, kind_of_code, not_supported, not_to_set, is_control};
 ghost use Rattle.rules.specs.Refusals.{line, first_holding};

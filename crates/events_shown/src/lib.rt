@@ -1,5 +1,7 @@
 // The event list: the download codes that a selectable applet is registered for, and whether a call changes them.
 // An event is listened for where the set of those registered and the set of the selectable applets meet.
+#![tactic(auto)]
+
 ghost use Rattle.std.specs.Prelude.{◌<◌, ◌≡◌};
 ghost use Rattle.rules.specs.Events.{codes, first_download};
 ghost use Rattle.events_shown.specs.Listed.{codes_from, codes_of};

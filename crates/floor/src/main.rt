@@ -1,5 +1,7 @@
 // The floor program: obeys the records on standard input and writes a line for each.
 // What its turns write is proved in `floor_records`; here bytes are moved.
+#![tactic(auto)]
+
 ghost use Rattle.std.specs.Prelude.{◌≡◌, ◌+◌, ◌^◌, ◌<◌, length};
 ghost use Rattle.card.specs.View.{Left};
 ghost use Rattle.floor.specs.Turned.{Turned};

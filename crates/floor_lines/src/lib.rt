@@ -1,5 +1,7 @@
 // The line of a record of the floor program, written at the front of a lent buffer.
 // What a line holds stands in `rules`, specs/Floor.antt.
+#![tactic(auto)]
+
 ghost use Rattle.std.specs.Prelude.{◌≡◌, ℕ, ◌+◌, ◌*◌, ◌^◌, ◌<◌, ◌≤◌, length};
 ghost use Rattle.std.specs.Prelude.{if◌then◌else◌};
 ghost use Rattle.lists.specs.Lists.{in?};

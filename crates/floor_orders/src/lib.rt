@@ -1,5 +1,7 @@
 // The call that a record of the floor program makes, known by its letter, and the arguments that the call takes.
 // What a record makes stands in `rules`, specs/Floor.antt.
+#![tactic(auto)]
+
 mod blanks;
 pub mod values;
 

@@ -1,4 +1,6 @@
 // The menu list, by value: at most 12 rows. Where a new one stands, and the list without those of an applet, closed up.
+#![tactic(auto)]
+
 ghost use Rattle.std.specs.Prelude.{◌≡◌, []};
 ghost use Rattle.rules.specs.Rows.{place, without_rows};
 ghost use Rattle.rules.specs.Held.{stored_row, no_row, view_rows, stored_rows, TidyRows};

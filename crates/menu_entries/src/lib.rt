@@ -1,5 +1,7 @@
 // What the calls about menu entries make of the menu list: the identifier and the row of a new entry, a new text, a mark.
 // A row is known by its identifier, never by its text.
+#![tactic(auto)]
+
 ghost use Rattle.std.specs.Prelude.{◌≡◌, ◌&&◌, ◌+◌, ◌≤◌, length, take};
 ghost use Rattle.std.specs.Prelude.{◌==◌};
 ghost use Rattle.lists.specs.Bits.{bits_of};

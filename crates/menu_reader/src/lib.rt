@@ -1,4 +1,6 @@
 // The menu reader: every byte is held to what the card would have written there. It accepts exactly what the card can write.
+#![tactic(auto)]
+
 ghost use Rattle.std.specs.Prelude.{◌≡◌, ◌≤◌, ◌<◌, length};
 ghost use Rattle.std.specs.Prelude.{if◌then◌else◌};
 ghost use Rattle.rules.specs.Readers.{ReadsMenu};

@@ -1,5 +1,7 @@
 // What the calls ask of the menu list: whom a menu choice or a help request is for, whether a call changes what is shown, and
 // whether a row is shown, by the set of the selectable applets.
+#![tactic(auto)]
+
 ghost use Rattle.std.specs.Prelude.{◌≡◌, not, ◌&&◌, ◌||◌};
 ghost use Rattle.std.specs.Prelude.{◌==◌};
 ghost use Rattle.lists.specs.Lists.{same?};

@@ -1,5 +1,7 @@
 // The requests for poll intervals, by applet number: who requests one, the system interval, and what of polling is due.
 // What they mean stands in specs/Polls.antt.
+#![tactic(auto)]
+
 ghost use Rattle.std.specs.Prelude.{◌≡◌, not, false};
 ghost use Rattle.std.specs.Prelude.{if◌then◌else◌, ◌==◌};
 ghost use Rattle.sets.specs.Sets.{switched_set};

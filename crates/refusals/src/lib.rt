@@ -1,5 +1,7 @@
 // What a call of the card is refused for: the lowest line of document 01's table that holds, or 0 where none does.
 // Each takes what was looked up and not the card; the lines of install stand in crate admission, those of the bank in timers.
+#![tactic(auto)]
+
 ghost use Rattle.std.specs.Prelude.{◌≡◌, not, ◌&&◌, [], ◌∷◌, length};
 ghost use Rattle.lists.specs.Tests.{◌≤?◌, ◌<?◌};
 ghost use Rattle.std.specs.Prelude.{if◌then◌else◌, ◌==◌};

@@ -1,4 +1,6 @@
 // The plain types that the rules of document 01 speak of. The rules themselves stand in specs/, one file for each section.
+#![tactic(auto)]
+
 pub mod refused;
 
 // The position and the identifier that an applet requests for a menu entry.

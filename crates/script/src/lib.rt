@@ -1,5 +1,7 @@
 // A script for the floor program: a text of many lines becomes records, one behind the other.
 // A line ends at a line feed; a carriage return before that does not count.
+#![tactic(auto)]
+
 ghost use Rattle.std.specs.Prelude.{◌≡◌, ◌+◌, ◌≤◌, ◌<◌, length};
 ghost use Rattle.script_line.specs.Records.{heard};
 ghost use Rattle.script.specs.Texts.{Composed, made_of, trimmed_of, line_meaning, unfinished_of, ended_of};

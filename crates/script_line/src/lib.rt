@@ -1,5 +1,7 @@
 // A line of a script for the floor program: it becomes one record of 24 bytes,
 // letter, applet, count, 20 argument bytes and 00.
+#![tactic(auto)]
+
 mod fields;
 mod line;
 mod words;

@@ -1,5 +1,7 @@
 // Sets of applet numbers as the bits of a byte: number n is bit n - 1.
 // What each answer means stands in specs/Sets.antt.
+#![tactic(auto)]
+
 ghost use Rattle.std.specs.Prelude.{◌≡◌};
 ghost use Rattle.sets.specs.Sets.{is_number, has?, single, set_both, meets, set_without, switched_set};
 

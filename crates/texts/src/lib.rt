@@ -1,5 +1,7 @@
 // Parts of bytes: what stands at a place, from a place on, up to a place; and the lines of a text.
 // Nothing is asked of a place: behind the end there is nothing.
+#![tactic(auto)]
+
 ghost use Rattle.std.specs.Prelude.{◌≡◌, get_or, take, drop};
 
 // The bytes from a place on, or none behind the end.

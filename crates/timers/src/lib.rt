@@ -1,5 +1,7 @@
 // The timer bank by value: who owns each timer, and the two timer calls of a bank that stands alone.
 // What each answer means stands in `rules`, specs/Timers.antt and specs/Beside.antt.
+#![tactic(auto)]
+
 ghost use Rattle.std.specs.Prelude.{◌≡◌, min};
 ghost use Rattle.rules.specs.Timers.{lowest_free, at_limit, owner_of, without_timers};
 ghost use Rattle.rules.specs.Calls.{refused_with};

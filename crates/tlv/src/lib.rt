@@ -1,5 +1,7 @@
 // Reads runs of elements, and the outer tag and length around one.
 // A position is an index into the caller's bytes, and a value is handed back as a part of them: nothing is copied.
+#![tactic(auto)]
+
 ghost use Rattle.std.specs.Prelude.{◌≡◌};
 ghost use Rattle.rules.specs.Bytes.{is_run, outer_of};
 ghost use Rattle.rules.specs.Readers.{Locates, GivesValue, TellsOf};

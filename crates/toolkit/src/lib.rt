@@ -1,5 +1,7 @@
 // What C links: a door for each call of a card, and doors for a fresh card, the readers and the timer bank alone.
 // include/toolkit.h says the same to a C programmer; a card and a bank are lent by their owner and changed where they stand.
+#![tactic(auto)]
+
 mod calls;
 
 ghost use Rattle.rules.specs.Readers.{ReadsMenu};

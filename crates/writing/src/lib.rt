@@ -1,5 +1,7 @@
 // The one writer of bytes: all that is written into a lent buffer goes through it, and what the card holds of bytes:
 // titles, texts and profiles, each in its place with zeros behind.
+#![tactic(auto)]
+
 ghost use Rattle.std.specs.Prelude.{◌+◌, ◌≤◌, ◌≡◌, length, take};
 ghost use Rattle.lists.specs.Lists.{padded};
 ghost use Rattle.lists.specs.Wrote.{Wrote};
