@@ -19,7 +19,7 @@ ghost use Rattle.std.specs.Prelude.{◌≡◌, ◌&&◌, ◌||◌};
 use rules::{Answer, Bank, Desk, Kind, Roll, Round, Rows};
 
 #[repr(C)]
-#[derive(Drop)]
+#[derive(Clone, Copy)]
 pub struct Card {
     pub polls: [u16; Roll::APPLETS],
     pub selectable: u8,
@@ -34,7 +34,7 @@ pub struct Card {
 }
 
 // The card after a call, with the answer.
-#[derive(Drop)]
+#[derive(Clone, Copy)]
 pub struct Reply {
     pub card: Card,
     pub answer: Answer,

@@ -6,7 +6,7 @@ use libc::STDOUT_FILENO;
 use texts::byte_at;
 
 // How a byte is changed.
-#[derive(Drop)]
+#[derive(Clone, Copy)]
 pub enum Way {
     Up,
     Down,
@@ -14,7 +14,7 @@ pub enum Way {
     To(u8),
 }
 
-#[derive(Drop)]
+#[derive(Clone, Copy)]
 pub struct Tried {
     pub count: u64,
     pub refused: u64,

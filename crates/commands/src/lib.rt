@@ -14,7 +14,7 @@ ghost use Rattle.commands.specs.Fits.{items_of, rows_bytes, shown_of, Fits};
 use rules::Rows;
 
 // What the shown rows come to: the bytes of their items, and the help mark.
-#[derive(Drop)]
+#[derive(Clone, Copy)]
 struct Extent {
     bytes: usize,
     help: bool,

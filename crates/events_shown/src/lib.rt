@@ -15,7 +15,7 @@ const FIRST: usize = Kind::MT_CALL as usize;
 const LAST: usize = Kind::BROWSING_STATUS as usize;
 
 // The codes of the shown events, ascending.
-#[derive(Drop)]
+#[derive(Clone, Copy)]
 pub struct Codes {
     pub at: [u8; Codes::MOST],
     pub count: u8,

@@ -11,7 +11,7 @@ use floor_records::obey_all;
 use libc::{STDIN_FILENO, STDOUT_FILENO};
 
 // Where the program stands: the card, the number of the next record, and whether to go on.
-#[derive(Drop)]
+#[derive(Clone, Copy)]
 struct Stand {
     card: Card,
     number: u64,

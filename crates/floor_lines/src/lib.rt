@@ -13,7 +13,7 @@ ghost use Rattle.floor_lines.specs.Texts.{Spells, refusal_text, answer_text};
 use writing::put;
 
 // What a line says of the refusal: its number (0: none), or that no call was made.
-#[derive(Drop)]
+#[derive(Clone, Copy)]
 pub enum Refusal {
     Number(u8),
     NoCall,

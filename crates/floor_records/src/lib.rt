@@ -15,7 +15,7 @@ use floor_orders::{arguments, call_letter};
 use texts::{byte_at, first, from};
 
 // What a piece leaves: the card, the number of the next record, and how many bytes its lines have.
-#[derive(Drop)]
+#[derive(Clone, Copy)]
 pub struct AfterPiece {
     pub card: Card,
     pub number: u64,

@@ -12,7 +12,7 @@ ghost use Rattle.menu_entries.specs.ItsRow.{with_words, entered_by, reworded_by,
 use rules::{Pair, Row, Rows};
 
 // What a call about an applet's row leaves: the rows, whether there is such a row, and whether what is shown of it turns.
-#[derive(Drop)]
+#[derive(Clone, Copy)]
 pub struct Touched {
     pub rows: Rows,
     pub its: bool,
@@ -20,7 +20,7 @@ pub struct Touched {
 }
 
 // What a new entry leaves: the rows, and the identifier of its row.
-#[derive(Drop)]
+#[derive(Clone, Copy)]
 pub struct Added {
     pub rows: Rows,
     pub identifier: u8,

@@ -10,7 +10,7 @@ ghost use Rattle.menu_reader.specs.Reads.{no_item, refused, ValueAt, TitleAt, It
 use rules::{Desk, Item, Menu, Row, Rows, refused};
 
 // The items that were read, how many they are, and the index behind them.
-#[derive(Drop)]
+#[derive(Clone, Copy)]
 pub struct Parsed {
     pub at: [Item; Rows::MOST],
     pub count: usize,

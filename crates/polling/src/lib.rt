@@ -12,7 +12,7 @@ ghost use Rattle.polling.specs.Polls.{polling_set, shorter_of, interval_of, poll
 use rules::Roll;
 
 // Which of POLL INTERVAL and POLLING OFF is due.
-#[derive(Drop)]
+#[derive(Clone, Copy)]
 pub struct Polling {
     pub interval: bool,
     pub off: bool,

@@ -5,7 +5,7 @@ pub mod refused;
 
 // The position and the identifier that an applet requests for a menu entry.
 #[repr(C)]
-#[derive(Drop)]
+#[derive(Clone, Copy)]
 pub struct Pair {
     pub position: u8,
     pub identifier: u8,
@@ -13,7 +13,7 @@ pub struct Pair {
 
 // What an install asks for: a priority, the limits, and a pair for each entry.
 #[repr(C)]
-#[derive(Drop)]
+#[derive(Clone, Copy)]
 pub struct Request {
     pub priority: u8,
     pub timers: u8,
@@ -24,7 +24,7 @@ pub struct Request {
 
 // What an applet was installed with: its priority and its limits, and a pair for each entry.
 #[repr(C)]
-#[derive(Drop)]
+#[derive(Clone, Copy)]
 pub struct Grant {
     pub priority: u8,
     pub timers: u8,
@@ -40,7 +40,7 @@ impl Grant {
 // What installs fix of the applets: their numbers in order of installation and in order of call, by number what each was
 // installed with, and the set of their numbers.
 #[repr(C)]
-#[derive(Drop)]
+#[derive(Clone, Copy)]
 pub struct Roll {
     pub count: u8,
     pub age: [u8; Roll::APPLETS],
@@ -55,7 +55,7 @@ impl Roll {
 
 // A row of the menu list.
 #[repr(C)]
-#[derive(Drop)]
+#[derive(Clone, Copy)]
 pub struct Row {
     pub identifier: u8,
     pub owner: u8,
@@ -71,7 +71,7 @@ impl Row {
 
 // The menu list.
 #[repr(C)]
-#[derive(Drop)]
+#[derive(Clone, Copy)]
 pub struct Rows {
     pub at: [Row; Rows::MOST],
     pub count: u8,
@@ -83,7 +83,7 @@ impl Rows {
 
 // The owners of the timers 1 to 8.
 #[repr(C)]
-#[derive(Drop)]
+#[derive(Clone, Copy)]
 pub struct Bank {
     pub owner: [u8; Bank::TIMERS],
 }
@@ -94,7 +94,7 @@ impl Bank {
 
 // What is due, in the order of handing out: the menu, the event list, POLL INTERVAL, POLLING OFF.
 #[repr(C)]
-#[derive(Drop)]
+#[derive(Clone, Copy)]
 pub struct Due {
     pub menu: bool,
     pub events: bool,
@@ -104,7 +104,7 @@ pub struct Due {
 
 // The terminal's side of the card.
 #[repr(C)]
-#[derive(Drop)]
+#[derive(Clone, Copy)]
 pub struct Desk {
     pub due: Due,
     pub session: bool,
@@ -122,7 +122,7 @@ impl Desk {
 
 // What arrived: its kind, and an event's place, a row's identifier or a timer.
 #[repr(C)]
-#[derive(Drop)]
+#[derive(Clone, Copy)]
 pub struct Arrived {
     pub kind: u8,
     pub number: u8,
@@ -144,7 +144,7 @@ impl Arrived {
 
 // The round: whether one is open, what arrived, and the set of those who wait for their turn.
 #[repr(C)]
-#[derive(Drop)]
+#[derive(Clone, Copy)]
 pub struct Round {
     pub open: bool,
     pub arrived: Arrived,
@@ -152,7 +152,7 @@ pub struct Round {
 }
 
 // What an event value or a download code is: an event that the product supports, by its place in the registrations, or none.
-#[derive(Drop)]
+#[derive(Clone, Copy)]
 pub enum Kind {
     Event(u8),
     Issuer,
@@ -206,14 +206,14 @@ impl Kind {
 }
 
 // A length: how many value bytes, and where they start.
-#[derive(Drop)]
+#[derive(Clone, Copy)]
 pub enum Len {
     Known { len: u8, next: usize },
     Bad,
 }
 
 // What stands at a position of a run: a whole element (its tag's number, its value's start and length, the position past it).
-#[derive(Drop)]
+#[derive(Clone, Copy)]
 pub enum Element {
     Whole {
         number: u16,
@@ -226,35 +226,35 @@ pub enum Element {
 }
 
 // A part of the caller's bytes.
-#[derive(Drop)]
+#[derive(Clone, Copy)]
 pub struct Span {
     pub start: usize,
     pub len: usize,
 }
 
 // What finding an element gives: where its value stands.
-#[derive(Drop)]
+#[derive(Clone, Copy)]
 pub enum Found {
     At(Span),
     Nothing,
 }
 
 // The outer tag, and where its value starts, which goes on to the end.
-#[derive(Drop)]
+#[derive(Clone, Copy)]
 pub enum Outer {
     Tlv { tag: u8, start: usize },
     Malformed,
 }
 
 // A value that is to be one byte.
-#[derive(Drop)]
+#[derive(Clone, Copy)]
 pub enum Byte {
     One(u8),
     Other,
 }
 
 // A help request.
-#[derive(Drop)]
+#[derive(Clone, Copy)]
 pub enum Help {
     Asked,
     Silent,
@@ -262,7 +262,7 @@ pub enum Help {
 }
 
 // What an envelope says.
-#[derive(Drop)]
+#[derive(Clone, Copy)]
 pub enum Envelope {
     Menu { item: u8, help: bool },
     Call,
@@ -273,7 +273,7 @@ pub enum Envelope {
 }
 
 // What a command given to send says: its type, or the timer that it manages.
-#[derive(Drop)]
+#[derive(Clone, Copy)]
 pub enum Command {
     Plain { kind: u8 },
     Timer { timer: u8 },
@@ -282,7 +282,7 @@ pub enum Command {
 
 // The handlers available to those called.
 #[repr(C)]
-#[derive(Drop)]
+#[derive(Clone, Copy)]
 pub struct Marks {
     pub proactive: bool,
     pub envelope: bool,
@@ -292,7 +292,7 @@ pub struct Marks {
 // The answer of a call on a card or a bank: the refusal's number (0: none), a number (an identifier, a timer, or the length of a
 // command), a yes or no, the applet called (0: nobody), and the marks.
 #[repr(C)]
-#[derive(Drop)]
+#[derive(Clone, Copy)]
 pub struct Answer {
     pub refusal: u8,
     pub number: u8,
@@ -303,7 +303,7 @@ pub struct Answer {
 
 // An item of a menu that was read.
 #[repr(C)]
-#[derive(Drop)]
+#[derive(Clone, Copy)]
 pub struct Item {
     pub identifier: u8,
     pub text: [u8; Row::TEXT],
@@ -312,7 +312,7 @@ pub struct Item {
 
 // The answer of the menu reader.
 #[repr(C)]
-#[derive(Drop)]
+#[derive(Clone, Copy)]
 pub struct Menu {
     pub refusal: u8,
     pub title: [u8; Desk::TITLE],

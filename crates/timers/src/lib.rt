@@ -17,7 +17,7 @@ const LAST_APPLET: u8 = Roll::APPLETS as u8;
 const LAST_TIMER: u8 = Bank::TIMERS as u8;
 
 // What a timer call hands back.
-#[derive(Drop)]
+#[derive(Clone, Copy)]
 pub struct BankReply {
     pub bank: Bank,
     pub answer: Answer,
