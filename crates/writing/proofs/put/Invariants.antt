@@ -1,0 +1,11 @@
+-- `writing::put` meets its contract: the loop has copied the first i bytes.
+use Prim.Native.Nat.{◌-◌}
+use borrow.Author.Rules.{rules}
+use Rattle.lists.proofs.Writing.{Copied, copied_none, copied_more, copied_all}
+use Rattle.writing.proofs.put.Given as goal
+
+abbrev pub invariant-loop-i : goal.invariant-loop-i
+invariant-loop-i l = Copied l.initial.buf l.at l.s l.i l.buf
+
+abbrev pub measure-loop-i : goal.measure-loop-i
+measure-loop-i l = l.n - l.i
