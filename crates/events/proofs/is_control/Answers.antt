@@ -7,7 +7,7 @@ use Rattle.events.proofs.is_control.Goals as goal
 
 pub returns-in-Event : goal.returns-in-Event
 unfolding is_control
-returns-in-Event c = ap is_control (sym c.kind-1.given.1)
+returns-in-Event c = ap is_control (sym c.in-Event.is)
 
 pub returns-in-Issuer : goal.returns-in-Issuer
 unfolding is_control

@@ -7,7 +7,7 @@ use Rattle.events.proofs.place_of.Goals as goal
 
 pub returns-in-Event : goal.returns-in-Event
 unfolding place_of
-returns-in-Event c = ap place_of (sym c.kind-1.given.1)
+returns-in-Event c = ap place_of (sym c.in-Event.is)
 
 pub returns-in-Issuer : goal.returns-in-Issuer
 unfolding place_of

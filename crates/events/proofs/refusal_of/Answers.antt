@@ -21,7 +21,7 @@ returns-in-4 c = search rules
 
 pub returns-in_default : goal.returns-in_default
 unfolding not_supported not_to_set first_holding
-returns-in_default c = settable _ c.in_default.rest.0.0.1 c.in_default.rest.0.1 c.in_default.rest.1 ∙ ap refusal_of (sym c.kind-1.given.1)
+returns-in_default c = settable _ c.in_default.in_default-own.rest.0.0.1 c.in_default.in_default-own.rest.0.1 c.in_default.in_default-own.rest.1 ∙ ap refusal_of (sym c.in-Event.is)
 
 pub returns-in-Issuer : goal.returns-in-Issuer
 unfolding not_supported not_to_set first_holding

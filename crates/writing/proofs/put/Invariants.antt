@@ -7,5 +7,5 @@ use Rattle.writing.proofs.put.Given as goal
 abbrev pub invariant-loop-i : goal.invariant-loop-i
 invariant-loop-i l = Copied l.initial.buf l.at l.s l.i l.buf
 
-abbrev pub measure-loop-i : goal.measure-loop-i
-measure-loop-i l = l.n - l.i
+abbrev pub decreases-loop-i : goal.decreases-loop-i
+decreases-loop-i l = l.n - l.i
