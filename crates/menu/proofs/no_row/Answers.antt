@@ -3,12 +3,8 @@
 use mathlib.Core.Path.{refl}
 use Rattle.lists.specs.Lists.{padded}
 use Rattle.rules.specs.Held.{stored_row}
-use Rattle.menu.proofs.no_row.Statement.{statement}
-use Rattle.menu.proofs.no_row.Tie as tie
+use Rattle.menu.proofs.no_row.Goals as goal
 
-returns : tie.Need-returns
+pub returns : goal.returns
 unfolding stored_row padded
 returns c = refl
-
-pub no-row-spec : {M : Type 1} → statement M
-no-row-spec = tie.close (tie.spec returns)

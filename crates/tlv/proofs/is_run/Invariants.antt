@@ -1,0 +1,15 @@
+-- `tlv::is_run` tells whether a run fills its bytes. The invariant: what is left from here on decides. The measure: the bytes left.
+use Prim.Native.Nat.{◌-◌}
+use mathlib.Core.Path.{◌≡◌}
+use lib.ListN.{length}
+use borrow.Author.Rules.{rules}
+use Rattle.rules.specs.Bytes.{Run, run_at, is_run}
+use Rattle.elements.proofs.Ends.{element-falls}
+use Rattle.tlv.proofs.Runs.{run-case}
+use Rattle.tlv.proofs.is_run.Given as goal
+
+abbrev pub invariant-loop-next : goal.invariant-loop-next
+invariant-loop-next l = (run_at l.s l.at).fills ≡ is_run l.s
+
+abbrev pub decreases-loop-next : goal.decreases-loop-next
+decreases-loop-next l = length l.s - l.at

@@ -1,0 +1,16 @@
+-- `tlv::locate` finds an element. The invariant: what is left to find from here on is what is to be found. The measure: the bytes left.
+use Prim.Native.Nat.{◌≤◌, ◌-◌}
+use mathlib.Core.Path.{◌≡◌}
+use lib.ListN.{length}
+use borrow.Author.Rules.{rules}
+use Rattle.lists.proofs.Picks.{picks}
+use Rattle.rules.specs.Bytes.{run_at, occurring, found}
+use Rattle.elements.proofs.Ends.{element-falls}
+use Rattle.tlv.proofs.Runs.{left_by, left-case}
+use Rattle.tlv.proofs.locate.Given as goal
+
+abbrev pub invariant-loop-number : goal.invariant-loop-number
+invariant-loop-number l = (1 ≤ l.left) × (occurring l.tag l.left (run_at l.s l.at).elements ≡ found l.s l.tag l.occurrence)
+
+abbrev pub decreases-loop-number : goal.decreases-loop-number
+decreases-loop-number l = length l.s - l.at
