@@ -1,0 +1,24 @@
+-- `admission::asks` meets its contract. The invariant: what was found and what is left of the pairs decide.
+-- Assumes nothing.
+use mathlib.Core.Path.{◌≡◌, refl}
+use Prim.Native.Nat.{◌-◌}
+use native.Mathlib.Omega.{arith}
+use Rattle.admission.specs.Refuses.{asks_for}
+use Rattle.lists.specs.Lists.{some?}
+use lib.ListN.{length, drop}
+use Rattle.lists.proofs.Scan.{Telling, telling-more, telling-all}
+use borrow.Author.Rules.{rules}
+use Rattle.admission.proofs.asks.Goals as goal
+
+pub loop-i-init : goal.loop-i-init
+loop-i-init c = record { left = refl }
+
+pub loop-i-preserved : goal.loop-i-preserved
+loop-i-preserved c =
+    let l : length c.args.pairs ≡ 4 = c.well_formed.0.1.0.1 in
+    telling-more (asks_for c.args.identifier) c.args.pairs c.loop-i.i _ (omega arith) refl c.loop-i.invariant
+
+pub returns : goal.returns
+returns c =
+    let l : length c.args.pairs ≡ 4 = c.well_formed.0.1.0.1 in
+    telling-all (asks_for c.args.identifier) c.args.pairs c.loop-i.i (omega arith) c.loop-i.invariant

@@ -1,0 +1,16 @@
+-- `admission::asks` meets its contract. The invariant: what was found and what is left of the pairs decide.
+use mathlib.Core.Path.{◌≡◌, refl}
+use Prim.Native.Nat.{◌-◌}
+use native.Mathlib.Omega.{arith}
+use Rattle.admission.specs.Refuses.{asks_for}
+use Rattle.lists.specs.Lists.{some?}
+use lib.ListN.{length, drop}
+use Rattle.lists.proofs.Scan.{Telling, telling-more, telling-all}
+use borrow.Author.Rules.{rules}
+use Rattle.admission.proofs.asks.Given as goal
+
+abbrev pub invariant-loop-i : goal.invariant-loop-i
+invariant-loop-i l = Telling (asks_for l.identifier) l.pairs (some? (asks_for l.identifier) (drop l.from l.pairs)) l.any l.i
+
+abbrev pub decreases-loop-i : goal.decreases-loop-i
+decreases-loop-i l = 4 - l.i

@@ -1,0 +1,61 @@
+-- `admission::install_refusal` meets its contract. Each return passes the lines above its own.
+-- Assumes nothing.
+use Prim.Native.Nat.{ℕ}
+use mathlib.Core.Path.{◌≡◌, refl}
+use mathlib.Core.Bool.{not}
+use Rattle.std.specs.Prelude.{if◌then◌else◌}
+use Rattle.lists.proofs.Picks.{picks, pick_true, pick-false, pick_yes, pick_no}
+use Rattle.sets.specs.Sets.{has?}
+use Rattle.rules.specs.Holds.{document}
+use Rattle.rules.specs.Applets.{is_number, out_of_range}
+use borrow.Author.Rules.{rules}
+use Rattle.rules.specs.Refusals.{first_holding}
+use Rattle.admission.proofs.Refusing.{lines_by, refusing, number-zero, number-over, number-within, limits-over, limits-within, clash-is}
+use Rattle.admission.proofs.install_refusal.Goals as goal
+
+pub returns-then-applet-eq0 : goal.returns-then-applet-eq0
+unfolding lines_by first_holding
+returns-then-applet-eq0 c = refusing _ _ _ (search (picks, number-zero, number-over, number-within, rules) depth 8)
+
+pub returns-then-applet-gt-LAST_APPLET : goal.returns-then-applet-gt-LAST_APPLET
+unfolding lines_by first_holding
+returns-then-applet-gt-LAST_APPLET c = refusing _ _ _ (search (picks, number-zero, number-over, number-within, rules) depth 8)
+
+pub returns-then-there : goal.returns-then-there
+unfolding lines_by first_holding
+returns-then-there c = refusing _ _ _ (search (picks, number-zero, number-over, number-within, rules) depth 8)
+
+pub returns-then-range : goal.returns-then-range
+unfolding lines_by first_holding
+returns-then-range c = refusing _ _ _ (search (picks, number-zero, number-over, number-within, rules) depth 8)
+
+pub returns-then-present-more-gt-MOST_ROWS : goal.returns-then-present-more-gt-MOST_ROWS
+unfolding lines_by first_holding
+returns-then-present-more-gt-MOST_ROWS c =
+    let over = limits-over _ c.total-present.ensures.0 c.wide-more.ensures.0 c.if-present-more-gt-MOST_ROWS.true in
+    refusing _ _ _ (past c (pick_true _ over refl))
+
+pub returns-then-clash : goal.returns-then-clash
+unfolding lines_by first_holding
+returns-then-clash c =
+    let few = limits-within _ c.total-present.ensures.0 c.wide-more.ensures.0 c.if-present-more-gt-MOST_ROWS.false in
+    let clash = clash-is _ _ c.looked_at-pairs.ensures c.clashes-clash.ensures in
+    refusing _ _ _ (past c (pick-false _ few (pick_yes _ clash c.if-clash.true refl)))
+
+pub returns : goal.returns
+unfolding lines_by first_holding
+returns c =
+    let few = limits-within _ c.total-present.ensures.0 c.wide-more.ensures.0 c.if-present-more-gt-MOST_ROWS.false in
+    let clash = clash-is _ _ c.looked_at-pairs.ensures c.clashes-clash.ensures in
+    refusing _ _ _ (past c (pick-false _ few (pick_no _ clash c.if-clash.false refl)))
+
+-- past the lines 2 to 4
+past : (c : tie.Else4) {x v : ℕ}
+    → let a = c.before.before.before.before.before.before.before.args in
+    x ≡ v
+    → x ≡ (if not (is_number document a.applet) then 2 else if has? a.roll.present a.applet then 3 else if out_of_range document a.request then 4 else v)
+past c e =
+    let f = c.before.before.before in
+    let g = f.before.before in
+    pick-false _ (number-within _ g.before.if1.false g.if2.false)
+    (pick_no _ f.before.has.ensures f.if3.false (pick_no _ c.before.is-out-of-range.ensures c.if4.false e))

@@ -1,0 +1,18 @@
+-- `admission::looked_at` meets its contract. The invariant: the first i pairs are copied.
+use Prim.Native.Nat.{ℕ, ◌-◌, ◌≤◌}
+use mathlib.Core.Path.{◌≡◌, refl, ap, ◌∙◌}
+use native.Mathlib.Omega.{arith}
+use lib.ListN.{length, take, length-take}
+use Rattle.lists.specs.Lists.{padded}
+use Rattle.lists.proofs.Padded.{copy_more}
+use Rattle.lists.proofs.Walk.{take-taken}
+use Rattle.rules.specs.Applets.{looked_at}
+use Rattle.rules.specs.Rows.{no_pair}
+use borrow.Author.Rules.{rules}
+use Rattle.admission.proofs.looked_at.Given as goal
+
+abbrev pub invariant-loop-i : goal.invariant-loop-i
+invariant-loop-i l = (l.i ≤ l.n) × (l.pairs ≡ padded 4 no_pair (take l.i l.all))
+
+abbrev pub decreases-loop-i : goal.decreases-loop-i
+decreases-loop-i l = l.n - l.i

@@ -1,0 +1,16 @@
+-- `admission::total` meets its contract. The invariant: the sum so far, and what is left, make up the whole.
+use Prim.Native.Nat.{ℕ, ◌+◌, ◌*◌, ◌-◌, ◌≤◌}
+use mathlib.Core.Path.{◌≡◌, sym, ap, ◌∙◌}
+use native.Mathlib.Omega.{arith}
+use lib.ListN.{length, drop}
+use Rattle.lists.specs.Lists.{sum}
+use Rattle.lists.proofs.Walk.{sum_step, sum-end}
+use Rattle.admission.specs.Refuses.{limit}
+use borrow.Author.Rules.{rules}
+use Rattle.admission.proofs.total.Given as goal
+
+abbrev pub invariant-loop-i : goal.invariant-loop-i
+invariant-loop-i l = (l.i ≤ 8) × (l.limits ≤ 255 * l.i) × (sum limit l.grants ≡ l.limits + sum limit (drop l.i l.grants))
+
+abbrev pub decreases-loop-i : goal.decreases-loop-i
+decreases-loop-i l = 8 - l.i

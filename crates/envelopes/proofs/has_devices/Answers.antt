@@ -1,0 +1,14 @@
+-- `envelopes::has_devices` tells whether device identities of two bytes are there.
+-- Assumes nothing.
+use borrow.Author.Rules.{rules}
+use Rattle.lists.proofs.Picks.{picks, by-case₁}
+use Rattle.rules.specs.Envelopes.{is_sized}
+use Rattle.envelopes.proofs.has_devices.Goals as goal
+
+pub returns-in-At : goal.returns-in-At
+unfolding is_sized
+returns-in-At c = search (picks, by-case₁ is_sized, rules) depth 8
+
+pub returns-in-Nothing : goal.returns-in-Nothing
+unfolding is_sized
+returns-in-Nothing c = search (picks, by-case₁ is_sized, rules) depth 8
