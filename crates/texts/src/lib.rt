@@ -2,7 +2,8 @@
 // Nothing is asked of a place: behind the end there is nothing.
 #![tactic(auto)]
 
-ghost use Rattle.std.specs.Prelude.{◌≡◌, get_or, take, drop};
+ghost use Rattle.std.specs.Prelude.{◌≡◌, ◌+◌, ◌≤◌, length, get_or, take, drop};
+ghost use Rattle.texts.specs.Places.{index_of, slice};
 
 // The bytes from a place on, or none behind the end.
 pub fn from(bytes: &[u8], at: usize) -> &[u8]
@@ -35,12 +36,27 @@ pub fn byte_at(s: &[u8], at: usize) -> u8
     0
 }
 
+// The first place of a byte from a place on and before another, or that other where there is none.
+pub fn find(bytes: &[u8], from: usize, to: usize, byte: u8) -> usize
+    requires ordered { from ≤ to }
+    requires within { to ≤ length bytes.now }
+    ensures place { result ≡ from + index_of byte (slice from to bytes.now) }
+    ensures low { from ≤ result }
+    ensures high { result ≤ to }
+{
+    let mut at = from;
+    while at < to && bytes[at] != byte {
+        at += 1;
+    }
+    at
+}
+
 // The line at a place, counted from 0, without its line feed; nothing where there are fewer lines.
 pub fn line_at(text: &[u8], place: usize) -> &[u8] {
     let mut line: usize = 0;
     let mut at: usize = 0;
     while at < text.len() {
-        let end = bytes::scan::find(text, at, text.len(), b'\n');
+        let end = find(text, at, text.len(), b'\n');
         if line == place {
             return &text[at..end];
         }

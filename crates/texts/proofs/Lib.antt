@@ -1,0 +1,2 @@
+-- Lemmas of the crate.
+pub mod Places
