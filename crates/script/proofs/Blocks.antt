@@ -15,7 +15,7 @@ use borrow.Author.Count.{below_more}
 use borrow.Author.Tests.{le-ltb, ltb-false, ne_eqb}
 use borrow.Rule.Slice.PartMut.{put_mid, post_of}
 use types.Run.{OneOf}
-use Rattle.bytes.specs.Bytes.{index_of, slice}
+use Rattle.texts.specs.Places.{index_of, slice}
 use Rattle.script_line.specs.Lines.{Meaning, blank, a_record, wrong, meaning_of}
 use Rattle.script_line.specs.Records.{heard}
 use Rattle.script_line.specs.declared.Cause.{Cause}

@@ -3,7 +3,7 @@
 use Rattle.std.specs.Prelude.{ℕ, zero, suc, ◌+◌, ◌-◌, ◌*◌, ◌≤◌, ◌<◌, ◌≡◌, Bool, true, false, List, [], ◌++◌, length, take, drop, get_or}
 use Rattle.lists.specs.Tests.{◌<?◌}
 use Rattle.std.specs.Prelude.{if◌then◌else◌, ◌==◌}
-use Rattle.bytes.specs.Bytes.{index_of}
+use Rattle.texts.specs.Places.{index_of}
 use Rattle.script_line.specs.Lines.{Meaning, blank, a_record, wrong, meaning_of}
 use Rattle.script_line.specs.declared.Cause.TheVariants.{LongLine}
 use Rattle.script_line.specs.declared.Outcome.{Outcome}

@@ -102,7 +102,7 @@ pub fn compose(text: &[u8], out: &mut [u8], last: bool) -> Progress
     let mut records = 0;
     let mut lines = 0;
     while at < text.len() && 24 <= out.len() - records * 24 {
-        let end = bytes::scan::find(text, at, text.len(), b'\n');
+        let end = texts::find(text, at, text.len(), b'\n');
         if end == text.len() {
             if !last {
                 return Progress {
