@@ -4,9 +4,9 @@
 
 ghost use Rattle.std.specs.Prelude.{◌≡◌, ◌≤◌, length};
 
-use libc::{STDERR_FILENO, STDIN_FILENO, STDOUT_FILENO};
 use script::Stop;
 use script_line::Cause;
+use std::io::{Read, Write};
 
 // What is kept from one read to the next: how many bytes of a line that has not ended, how many lines came before it, and whether to go on.
 #[derive(Drop)]
@@ -35,11 +35,27 @@ fn place_of(cause: Cause) -> usize {
     }
 }
 
+// Writes all of a text, or as much of it as is taken, and says whether it was all.
+fn tell(to: &mut impl Write, text: &[u8]) -> bool {
+    match to.write_all(text) {
+        Ok(()) => true,
+        Err(_) => false,
+    }
+}
+
+// Writes a number in decimal, or as much of it as is taken, and says whether it was all.
+fn tell_number(to: &mut impl Write, n: u64) -> bool {
+    match write!(to, "{n}") {
+        Ok(()) => true,
+        Err(_) => false,
+    }
+}
+
 // Says which line is bad, and why.
-fn complain(line: u64, cause: Cause) {
-    io::write_all(STDERR_FILENO, b"compose: line ");
-    io::print_decimal(STDERR_FILENO, line);
-    io::write_all(STDERR_FILENO, b": ");
+fn complain(told: &mut impl Write, line: u64, cause: Cause) {
+    tell(told, b"compose: line ");
+    tell_number(told, line);
+    tell(told, b": ");
     let why = texts::line_at(
         b"unknown letter\n\
           missing applet\n\
@@ -56,8 +72,8 @@ fn complain(line: u64, cause: Cause) {
           line too long\n",
         place_of(cause),
     );
-    io::write_all(STDERR_FILENO, why);
-    io::write_all(STDERR_FILENO, b"\n");
+    tell(told, why);
+    tell(told, b"\n");
 }
 
 // Moves the bytes from `from` up to `to` to the front, and says how many they are.
@@ -75,10 +91,10 @@ fn keep(text: &mut [u8], from: usize, to: usize) -> usize
 }
 
 // Whether the run goes on after a text of which `n` bytes were new. A bad line ends it, with a message.
-fn settle(stop: Stop, lines: u64, n: usize) -> bool {
+fn settle(told: &mut impl Write, stop: Stop, lines: u64, n: usize) -> bool {
     match stop {
         Stop::Bad(c) => {
-            complain(std::num::wrapping_add_u64(lines, 1), c);
+            complain(told, lines.wrapping_add(1), c);
             false
         }
         Stop::Full => true,
@@ -98,36 +114,50 @@ fn stopped() -> Rest
 }
 
 // Reads once, writes the records of the lines that are whole, and keeps what is left of the text.
-fn turn(text: &mut [u8], out: &mut [u8], rest: Rest) -> Rest
+fn turn<I: Read, O: Write, E: Write>(
+    input: &mut I,
+    output: &mut O,
+    told: &mut E,
+    text: &mut [u8],
+    out: &mut [u8],
+    rest: Rest,
+) -> Rest
     requires { rest.kept ≤ length text.old }
     ensures { result.kept ≤ length text.new }
 {
     let kept = rest.kept;
-    let got = libc::read(STDIN_FILENO, &mut text[kept..]);
-    if got < 0 {
-        io::write_all(STDERR_FILENO, b"compose: standard input cannot be read\n");
-        return stopped();
-    }
-    let n = io::count(got, &text[kept..]);
+    let n = match input.read(&mut text[kept..]) {
+        Ok(n) => n,
+        Err(_) => {
+            tell(told, b"compose: standard input cannot be read\n");
+            return stopped();
+        }
+    };
     let end = kept + n;
     let done = script::compose(&text[..end], out, n == 0);
     let wrote = done.records * 24;
-    if !io::write_all(STDOUT_FILENO, &out[..wrote]) {
+    if !tell(output, &out[..wrote]) {
         return stopped();
     }
     let at = done.at;
     let left = keep(text, at, end);
-    let lines = std::num::wrapping_add_u64(rest.lines, done.lines as u64);
+    let lines = rest.lines.wrapping_add(done.lines as u64);
     let stop = done.stop;
     Rest {
         kept: left,
         lines,
-        goes_on: settle(stop, lines, n),
+        goes_on: settle(told, stop, lines, n),
     }
 }
 
 // A proved loop has to end, and nothing says that the input does: so the turns are counted down from a number that no run uses up.
-fn run(text: &mut [u8], out: &mut [u8]) {
+fn run<I: Read, O: Write, E: Write>(
+    input: &mut I,
+    output: &mut O,
+    told: &mut E,
+    text: &mut [u8],
+    out: &mut [u8],
+) {
     let mut turns = u64::MAX;
     let mut rest = Rest {
         kept: 0,
@@ -135,13 +165,19 @@ fn run(text: &mut [u8], out: &mut [u8]) {
         goes_on: true,
     };
     while turns > 0 && rest.goes_on {
-        rest = turn(text, out, rest);
+        rest = turn(input, output, told, text, out, rest);
         turns -= 1;
     }
 }
 
-fn main() {
-    let mut text = io::buffer();
-    let mut out = io::large_buffer();
-    run(&mut text, &mut out);
+fn main(rt: HostRuntime) {
+    let mut text = [0u8; 4096];
+    let mut out = [0u8; 65536];
+    run(
+        &mut rt.stdin(),
+        &mut rt.stdout(),
+        &mut rt.stderr(),
+        &mut text,
+        &mut out,
+    );
 }
