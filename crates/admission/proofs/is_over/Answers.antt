@@ -10,6 +10,7 @@ use Rattle.lists.specs.Lists.{some?}
 use lib.ListN.{length}
 use Rattle.lists.proofs.Scan.{Telling, telling-more, telling-all}
 use borrow.Author.Rules.{rules}
+use Rattle.admission.proofs.is_over.Invariants.{over}
 use Rattle.admission.proofs.is_over.Goals as goal
 
 pub loop-i-init : goal.loop-i-init
@@ -24,6 +25,3 @@ pub returns : goal.returns
 returns c =
     let l : length c.args.pairs ≡ 4 = c.well_formed.0.1.0.1 in
     telling-all over c.args.pairs c.loop-i.i (omega arith) c.loop-i.invariant
-
-abbrev over : Pair → Bool
-over p = 127 <? p.identifier

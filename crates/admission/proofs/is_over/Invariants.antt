@@ -11,6 +11,9 @@ use Rattle.lists.proofs.Scan.{Telling, telling-more, telling-all}
 use borrow.Author.Rules.{rules}
 use Rattle.admission.proofs.is_over.Given as goal
 
+abbrev pub over : Pair → Bool
+over p = 127 <? p.identifier
+
 abbrev pub invariant-loop-i : goal.invariant-loop-i
 invariant-loop-i l = Telling over l.pairs (some? over l.pairs) l.any l.i
 

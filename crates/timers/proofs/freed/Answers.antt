@@ -12,7 +12,7 @@ use Rattle.timers.proofs.Owners.{owners-length}
 use Rattle.timers.proofs.freed.Goals as goal
 
 pub loop-i-init : goal.loop-i-init
-loop-i-init c = (omega arith, owners-length c.args.bank.owner c.well_formed.0.1.1.0.1.0.1, refl)
+loop-i-init c = (omega arith, c.well_formed.0.1.1.0.1.0.1, refl)
 
 pub loop-i-preserved : goal.loop-i-preserved
 loop-i-preserved c =

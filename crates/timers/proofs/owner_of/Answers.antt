@@ -12,4 +12,4 @@ pub returns-in_default : goal.returns-in_default
 returns-in_default c = owner-zero _ _ (omega arith)
 
 pub returns-in_default-2 : goal.returns-in_default-2
-returns-in_default-2 c = owner-outside _ _ (omega (arith, owners-length c.args.bank.owner c.well_formed.0.1.1.0.1.0.1))
+returns-in_default-2 c = owner-outside _ _ (omega (arith, c.well_formed.0.1.1.0.1.0.1))

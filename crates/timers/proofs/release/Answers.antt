@@ -11,30 +11,30 @@ use borrow.Author.Rules.{rules}
 use Rattle.timers.proofs.release.Goals as goal
 
 pub returns-then-not-between : goal.returns-then-not-between
-returns-then-not-between c = rw c.refuse.ensures (release-2 _ _ _ (owner-between _ false (sym c.between.ensures ∙ not-true _ c.if-not-between.true)))
+returns-then-not-between c = rw c.refuse.ensures (release-2 _ _ _ (owner-between _ false (sym c.between.ensures ∙ c.if-not-between.true)))
 
 pub returns-then-owner_of-applet : goal.returns-then-owner_of-applet
 returns-then-owner_of-applet c =
-    let known : is_owner c.args.applet ≡ true = owner-between _ true (sym c.between.ensures ∙ not-false _ c.if-not-between.false) in
+    let known : is_owner c.args.applet ≡ true = owner-between _ true (sym c.between.ensures ∙ c.if-not-between.false) in
     rw c.refuse-then-owner_of-applet.ensures (release-15 _ _ _ known (λ e. c.if-owner_of-applet.true (c.owner_of.ensures ∙ e)))
 
 pub overflow_sub-at : goal.overflow_sub-at
 overflow_sub-at c =
-    let known : is_owner c.args.applet ≡ true = owner-between _ true (sym c.between.ensures ∙ not-false _ c.if-not-between.false) in
-    let within : (1 ≤ c.args.timer) × (c.args.timer ≤ 8) = let l = owners-length c.args.bank.owner c.well_formed.0.1.1.0.1.0.1 in
+    let known : is_owner c.args.applet ≡ true = owner-between _ true (sym c.between.ensures ∙ c.if-not-between.false) in
+    let within : (1 ≤ c.args.timer) × (c.args.timer ≤ 8) = let l = c.well_formed.0.1.1.0.1.0.1 in
     let h = its-timer c.args.bank.owner _ _ known (sym c.owner_of.ensures ∙ c.if-owner_of-applet.false) in
     (h.0, omega arith) in
     omega (arith, within)
 
 pub bounds-next-at : goal.bounds-next-at
 bounds-next-at c =
-    let known : is_owner c.args.applet ≡ true = owner-between _ true (sym c.between.ensures ∙ not-false _ c.if-not-between.false) in
-    let within : (1 ≤ c.args.timer) × (c.args.timer ≤ 8) = let l = owners-length c.args.bank.owner c.well_formed.0.1.1.0.1.0.1 in
+    let known : is_owner c.args.applet ≡ true = owner-between _ true (sym c.between.ensures ∙ c.if-not-between.false) in
+    let within : (1 ≤ c.args.timer) × (c.args.timer ≤ 8) = let l = c.well_formed.0.1.1.0.1.0.1 in
     let h = its-timer c.args.bank.owner _ _ known (sym c.owner_of.ensures ∙ c.if-owner_of-applet.false) in
     (h.0, omega arith) in
     omega (arith, within)
 
 pub returns : goal.returns
 returns c =
-    let known : is_owner c.args.applet ≡ true = owner-between _ true (sym c.between.ensures ∙ not-false _ c.if-not-between.false) in
+    let known : is_owner c.args.applet ≡ true = owner-between _ true (sym c.between.ensures ∙ c.if-not-between.false) in
     rw c.of_refusal-answer.ensures (release-0 _ _ _ known (sym c.owner_of.ensures ∙ c.if-owner_of-applet.false))
