@@ -33,29 +33,24 @@ pub returns-then-present-more-gt-MOST_ROWS : goal.returns-then-present-more-gt-M
 unfolding lines_by first_holding
 returns-then-present-more-gt-MOST_ROWS c =
     let over = limits-over _ c.total-present.ensures.0 c.wide-more.ensures.0 c.if-present-more-gt-MOST_ROWS.true in
-    refusing _ _ _ (past c (pick_true _ over refl))
+    refusing _ _ _ (pick-false _ (number-within _ c.if-applet-eq0.false c.if-applet-gt-LAST_APPLET.false)
+        (pick_no _ c.has-there.ensures c.if-there.false
+        (pick_no _ c.is_out_of_range-range.ensures c.if-range.false (pick_true _ over refl))))
 
 pub returns-then-clash : goal.returns-then-clash
 unfolding lines_by first_holding
 returns-then-clash c =
     let few = limits-within _ c.total-present.ensures.0 c.wide-more.ensures.0 c.if-present-more-gt-MOST_ROWS.false in
     let clash = clash-is _ _ c.looked_at-pairs.ensures c.clashes-clash.ensures in
-    refusing _ _ _ (past c (pick-false _ few (pick_yes _ clash c.if-clash.true refl)))
+    refusing _ _ _ (pick-false _ (number-within _ c.if-applet-eq0.false c.if-applet-gt-LAST_APPLET.false)
+        (pick_no _ c.has-there.ensures c.if-there.false
+        (pick_no _ c.is_out_of_range-range.ensures c.if-range.false (pick-false _ few (pick_yes _ clash c.if-clash.true refl)))))
 
 pub returns : goal.returns
 unfolding lines_by first_holding
 returns c =
     let few = limits-within _ c.total-present.ensures.0 c.wide-more.ensures.0 c.if-present-more-gt-MOST_ROWS.false in
     let clash = clash-is _ _ c.looked_at-pairs.ensures c.clashes-clash.ensures in
-    refusing _ _ _ (past c (pick-false _ few (pick_no _ clash c.if-clash.false refl)))
-
--- past the lines 2 to 4
-past : (c : tie.Else4) {x v : ℕ}
-    → let a = c.before.before.before.before.before.before.before.args in
-    x ≡ v
-    → x ≡ (if not (is_number document a.applet) then 2 else if has? a.roll.present a.applet then 3 else if out_of_range document a.request then 4 else v)
-past c e =
-    let f = c.before.before.before in
-    let g = f.before.before in
-    pick-false _ (number-within _ g.before.if1.false g.if2.false)
-    (pick_no _ f.before.has.ensures f.if3.false (pick_no _ c.before.is-out-of-range.ensures c.if4.false e))
+    refusing _ _ _ (pick-false _ (number-within _ c.if-applet-eq0.false c.if-applet-gt-LAST_APPLET.false)
+        (pick_no _ c.has-there.ensures c.if-there.false
+        (pick_no _ c.is_out_of_range-range.ensures c.if-range.false (pick-false _ few (pick_no _ clash c.if-clash.false refl)))))
