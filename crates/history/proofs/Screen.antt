@@ -13,7 +13,7 @@ use Rattle.lists.proofs.Counts.{count_map}
 use Rattle.lists.proofs.Times.{some_alike}
 use Rattle.lists.proofs.Truth.{and-true}
 use Rattle.rules.specs.Holds.{Row, Model, document}
-use Rattle.rules.specs.Commands.{Menu, shown_menu, shown_events, interval, menu_of, menu_bytes, event_bytes, interval_bytes, is_menu}
+use Rattle.rules.specs.Commands.{Menu, shown_menu, shown_events, menu_of, menu_bytes, event_bytes, interval_bytes, is_menu}
 use Rattle.rules.specs.Desk.{Matter, menu, event_list, poll_interval, polling_off, command_for}
 use Rattle.rules.specs.Calls.{Call, Answer, proactive, system_command, send}
 use Rattle.rules.specs.Refusals.{refusal}

@@ -1,13 +1,10 @@
 -- `admission::asks` meets its contract. The invariant: what was found and what is left of the pairs decide.
 -- Assumes nothing.
 use mathlib.Core.Path.{◌≡◌, refl}
-use Prim.Native.Nat.{◌-◌}
 use native.Mathlib.Omega.{arith}
 use Rattle.admission.specs.Refuses.{asks_for}
-use Rattle.lists.specs.Lists.{some?}
-use lib.ListN.{length, drop}
-use Rattle.lists.proofs.Scan.{Telling, telling-more, telling-all}
-use borrow.Author.Rules.{rules}
+use lib.ListN.{length}
+use Rattle.lists.proofs.Scan.{telling-more, telling-all}
 use Rattle.admission.proofs.asks.Goals as goal
 
 pub loop-i-init : goal.loop-i-init

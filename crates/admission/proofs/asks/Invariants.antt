@@ -1,12 +1,9 @@
 -- `admission::asks` meets its contract. The invariant: what was found and what is left of the pairs decide.
-use mathlib.Core.Path.{◌≡◌, refl}
 use Prim.Native.Nat.{◌-◌}
-use native.Mathlib.Omega.{arith}
 use Rattle.admission.specs.Refuses.{asks_for}
 use Rattle.lists.specs.Lists.{some?}
-use lib.ListN.{length, drop}
-use Rattle.lists.proofs.Scan.{Telling, telling-more, telling-all}
-use borrow.Author.Rules.{rules}
+use lib.ListN.{drop}
+use Rattle.lists.proofs.Scan.{Telling}
 use Rattle.admission.proofs.asks.Given as goal
 
 abbrev pub invariant-loop-i : goal.invariant-loop-i

@@ -1,13 +1,10 @@
 -- `admission::clashes` meets its contract. The invariant: what was found and what is left of the pairs decide.
 -- Assumes nothing.
-use Prim.Native.Nat.{◌-◌}
 use mathlib.Core.Path.{◌≡◌, refl, sym, ◌∙◌}
-use mathlib.Core.Bool.{false}
 use native.Mathlib.Omega.{arith}
 use lib.ListN.{length}
 use Rattle.admission.specs.Refuses.{taken}
-use Rattle.admission.proofs.Requests.{Repeated, repeated-more, repeated-all}
-use borrow.Author.Rules.{rules}
+use Rattle.admission.proofs.Requests.{repeated-more, repeated-all}
 use Rattle.admission.proofs.clashes.Goals as goal
 
 pub loop-i-init : goal.loop-i-init

@@ -1,12 +1,8 @@
 -- `admission::clashes` meets its contract. The invariant: what was found and what is left of the pairs decide.
 use Prim.Native.Nat.{◌-◌}
-use mathlib.Core.Path.{◌≡◌, refl, sym, ◌∙◌}
 use mathlib.Core.Bool.{false}
-use native.Mathlib.Omega.{arith}
-use lib.ListN.{length}
 use Rattle.admission.specs.Refuses.{taken}
-use Rattle.admission.proofs.Requests.{Repeated, repeated-more, repeated-all}
-use borrow.Author.Rules.{rules}
+use Rattle.admission.proofs.Requests.{Repeated}
 use Rattle.admission.proofs.clashes.Given as goal
 
 abbrev pub invariant-loop-i : goal.invariant-loop-i

@@ -3,7 +3,6 @@
 use mathlib.Core.Path.{refl}
 use Rattle.rules.specs.Applets.{newcomer}
 use Rattle.applets.specs.ByNumber.{grant_of}
-use borrow.Author.Rules.{rules}
 use Rattle.admission.proofs.granted.Goals as goal
 
 pub returns : goal.returns

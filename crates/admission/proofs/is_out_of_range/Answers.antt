@@ -8,7 +8,6 @@ use Rattle.lists.proofs.Walk.{some-padded}
 use Rattle.rules.specs.declared.Pair.{Pair}
 use Rattle.rules.specs.Applets.{out_of_range, looked_at}
 use Rattle.rules.specs.Rows.{no_pair}
-use borrow.Author.Rules.{rules}
 use Rattle.admission.proofs.is_out_of_range.Goals as goal
 
 pub returns-then-request-eq0 : goal.returns-then-request-eq0

@@ -1,15 +1,9 @@
 -- `admission::is_over` meets its contract. The invariant: what was found and what is left of the pairs decide.
 -- Assumes nothing.
 use mathlib.Core.Path.{◌≡◌, refl}
-use Prim.Native.Nat.{◌-◌}
 use native.Mathlib.Omega.{arith}
-use mathlib.Core.Bool.{Bool}
-use Rattle.lists.specs.Tests.{◌<?◌}
-use Rattle.rules.specs.declared.Pair.{Pair}
-use Rattle.lists.specs.Lists.{some?}
 use lib.ListN.{length}
-use Rattle.lists.proofs.Scan.{Telling, telling-more, telling-all}
-use borrow.Author.Rules.{rules}
+use Rattle.lists.proofs.Scan.{telling-more, telling-all}
 use Rattle.admission.proofs.is_over.Invariants.{over}
 use Rattle.admission.proofs.is_over.Goals as goal
 

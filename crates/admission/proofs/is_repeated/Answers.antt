@@ -3,7 +3,6 @@
 use mathlib.Core.Path.{refl, sym, ◌∙◌}
 use borrow.Author.Tests.{eq-eqb, ne_eqb}
 use Rattle.admission.proofs.Requests.{in-requested, has-asked}
-use borrow.Author.Rules.{rules}
 use Rattle.admission.proofs.is_repeated.Goals as goal
 
 pub returns-then-identifier-eq0 : goal.returns-then-identifier-eq0

@@ -1,13 +1,10 @@
 -- `admission::is_taken` meets its contract. The invariant: what was found and what is left of the applets decide.
 -- Assumes nothing.
-use Prim.Native.Nat.{◌-◌}
 use mathlib.Core.Path.{◌≡◌, refl}
 use native.Mathlib.Omega.{arith}
 use lib.ListN.{length}
-use Rattle.lists.specs.Lists.{some?}
 use Rattle.admission.specs.Refuses.{has_requested}
-use Rattle.lists.proofs.Scan.{Telling, telling-more, telling-all}
-use borrow.Author.Rules.{rules}
+use Rattle.lists.proofs.Scan.{telling-more, telling-all}
 use Rattle.admission.proofs.is_taken.Goals as goal
 
 pub loop-i-init : goal.loop-i-init

@@ -1,12 +1,8 @@
 -- `admission::is_taken` meets its contract. The invariant: what was found and what is left of the applets decide.
 use Prim.Native.Nat.{◌-◌}
-use mathlib.Core.Path.{◌≡◌, refl}
-use native.Mathlib.Omega.{arith}
-use lib.ListN.{length}
 use Rattle.lists.specs.Lists.{some?}
 use Rattle.admission.specs.Refuses.{has_requested}
-use Rattle.lists.proofs.Scan.{Telling, telling-more, telling-all}
-use borrow.Author.Rules.{rules}
+use Rattle.lists.proofs.Scan.{Telling}
 use Rattle.admission.proofs.is_taken.Given as goal
 
 abbrev pub invariant-loop-i : goal.invariant-loop-i

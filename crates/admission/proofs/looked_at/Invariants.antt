@@ -1,14 +1,9 @@
 -- `admission::looked_at` meets its contract. The invariant: the first i pairs are copied.
-use Prim.Native.Nat.{ℕ, ◌-◌, ◌≤◌}
-use mathlib.Core.Path.{◌≡◌, refl, ap, ◌∙◌}
-use native.Mathlib.Omega.{arith}
-use lib.ListN.{length, take, length-take}
+use Prim.Native.Nat.{◌-◌, ◌≤◌}
+use mathlib.Core.Path.{◌≡◌}
+use lib.ListN.{take}
 use Rattle.lists.specs.Lists.{padded}
-use Rattle.lists.proofs.Padded.{copy_more}
-use Rattle.lists.proofs.Walk.{take-taken}
-use Rattle.rules.specs.Applets.{looked_at}
 use Rattle.rules.specs.Rows.{no_pair}
-use borrow.Author.Rules.{rules}
 use Rattle.admission.proofs.looked_at.Given as goal
 
 abbrev pub invariant-loop-i : goal.invariant-loop-i

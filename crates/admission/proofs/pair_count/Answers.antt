@@ -1,8 +1,8 @@
 -- `admission::pair_count` meets its contract. There are four pairs.
 -- Assumes nothing.
-use mathlib.Core.Path.{◌≡◌, sym, ◌∙◌}
+use mathlib.Core.Path.{◌≡◌}
 use native.Mathlib.Omega.{arith}
-use lib.ListN.{length, length-map, length-take}
+use lib.ListN.{length, length-take}
 use Rattle.rules.specs.Applets.{looked_at}
 use borrow.Author.Rules.{rules}
 use Rattle.admission.proofs.pair_count.Goals as goal

@@ -1,12 +1,9 @@
 -- `admission::total` meets its contract. The invariant: the sum so far, and what is left, make up the whole.
-use Prim.Native.Nat.{ℕ, ◌+◌, ◌*◌, ◌-◌, ◌≤◌}
-use mathlib.Core.Path.{◌≡◌, sym, ap, ◌∙◌}
-use native.Mathlib.Omega.{arith}
-use lib.ListN.{length, drop}
+use Prim.Native.Nat.{◌+◌, ◌*◌, ◌-◌, ◌≤◌}
+use mathlib.Core.Path.{◌≡◌}
+use lib.ListN.{drop}
 use Rattle.lists.specs.Lists.{sum}
-use Rattle.lists.proofs.Walk.{sum_step, sum-end}
 use Rattle.admission.specs.Refuses.{limit}
-use borrow.Author.Rules.{rules}
 use Rattle.admission.proofs.total.Given as goal
 
 abbrev pub invariant-loop-i : goal.invariant-loop-i

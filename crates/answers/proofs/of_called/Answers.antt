@@ -1,6 +1,5 @@
 -- `answers::of_called` meets its contract.
 -- Assumes nothing.
-use borrow.Author.Rules.{rules}
 use Rattle.rules.specs.Held.{stored_answer}
 use Rattle.answers.proofs.of_called.Goals as goal
 

@@ -1,7 +1,6 @@
 -- `answers::of_yes_or_no` meets its contract.
 -- Assumes nothing.
 use borrow.Author.Tests.{ne_eqb}
-use borrow.Author.Rules.{rules}
 use Rattle.answers.proofs.of_yes_or_no.Goals as goal
 
 pub returns-then-refusal-eq0 : goal.returns-then-refusal-eq0

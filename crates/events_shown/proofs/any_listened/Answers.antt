@@ -1,9 +1,7 @@
 -- `any_listened` meets its contract. The invariant: what the places passed say, joined with what is left, is the answer.
 -- Assumes nothing.
-use Prim.Native.Nat.{◌-◌}
 use borrow.Author.Rules.{rules}
-use Rattle.events_shown.specs.Turns.{is_listened}
-use Rattle.events_shown.proofs.Places.{Joining, joining-none, joining-more, joining-all}
+use Rattle.events_shown.proofs.Places.{joining-none, joining-more, joining-all}
 use Rattle.events_shown.proofs.any_listened.Goals as goal
 
 pub loop-place-init : goal.loop-place-init

@@ -2,7 +2,6 @@
 -- Assumes nothing.
 use mathlib.Core.Path.{ap₂}
 use mathlib.Core.Bool.{Bool, not, beq}
-use borrow.Author.Rules.{rules}
 use Rattle.events_shown.proofs.code_turns.Goals as goal
 
 pub returns : goal.returns

@@ -1,10 +1,7 @@
 -- `codes_turn` meets its contract. The invariant: what the places passed say, joined with what is left, is the answer.
 -- Assumes nothing.
-use Prim.Native.Nat.{◌-◌}
-use native.Mathlib.Omega.{arith}
 use borrow.Author.Rules.{rules}
-use Rattle.events_shown.specs.Turns.{code_turns}
-use Rattle.events_shown.proofs.Places.{Joining, joining-none, joining-more, joining-all}
+use Rattle.events_shown.proofs.Places.{joining-none, joining-more, joining-all}
 use Rattle.events_shown.proofs.codes_turn.Goals as goal
 
 pub loop-place-init : goal.loop-place-init

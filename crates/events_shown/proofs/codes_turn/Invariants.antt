@@ -1,9 +1,7 @@
 -- `codes_turn` meets its contract. The invariant: what the places passed say, joined with what is left, is the answer.
 use Prim.Native.Nat.{◌-◌}
-use native.Mathlib.Omega.{arith}
-use borrow.Author.Rules.{rules}
 use Rattle.events_shown.specs.Turns.{code_turns}
-use Rattle.events_shown.proofs.Places.{Joining, joining-none, joining-more, joining-all}
+use Rattle.events_shown.proofs.Places.{Joining}
 use Rattle.events_shown.proofs.codes_turn.Given as goal
 
 abbrev pub invariant-loop-place : goal.invariant-loop-place

@@ -5,7 +5,6 @@ use mathlib.Core.Path.{refl, ap₂}
 use mathlib.Core.Bool.{Bool, not, beq}
 use borrow.Author.Tests.{lt-leb, le-leb, le-ltb, lt-ltb}
 use Rattle.events_shown.specs.Turns.{is_download}
-use borrow.Author.Rules.{rules}
 use Rattle.events_shown.proofs.events_turn.Goals as goal
 
 pub returns-then-place-lt-MT_CALL : goal.returns-then-place-lt-MT_CALL

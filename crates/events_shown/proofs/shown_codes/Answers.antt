@@ -1,8 +1,7 @@
 -- `events_shown::shown_codes` meets its contract. The invariant: what stands in the array are the shown of the first i codes.
 -- Assumes nothing.
-use Prim.Native.Nat.{ℕ, ◌≤◌, ◌-◌}
+use Prim.Native.Nat.{ℕ}
 use mathlib.Core.Path.{◌≡◌, refl, sym, subst, ◌∙◌}
-use mathlib.Core.Logic.{⊎_elim}
 use native.Mathlib.Omega.{arith}
 use Rattle.lists.specs.Lists.{padded}
 use Rattle.rules.specs.Events as rules
@@ -20,9 +19,10 @@ loop-i-init c = (search rules, record { few = search rules; form = refl; many = 
 pub loop-i-preserved : goal.loop-i-preserved
 loop-i-preserved c =
     let is = sym c.meet-is.ensures in
-    elim c.if-is.branch
-    [ then-is w ↦ (search rules, rw (w.at-is, w.k-is) (gathered-yes _ _ c.loop-i.i _ _ (omega arith) (omega arith) (is ∙ w.if-is.true) c.loop-i.invariant.1))
-    | else-is w ↦ (search rules, rw (w.at-is, w.k-is) (gathered-no _ _ c.loop-i.i _ _ (omega arith) (is ∙ w.if-is.false) c.loop-i.invariant.1)) ]
+    elim c.if-is.branch [
+      | then-is w ↦ (search rules, rw (w.at-is, w.k-is) (gathered-yes _ _ c.loop-i.i _ _ (omega arith) (omega arith) (is ∙ w.if-is.true) c.loop-i.invariant.1))
+      | else-is w ↦ (search rules, rw (w.at-is, w.k-is) (gathered-no _ _ c.loop-i.i _ _ (omega arith) (is ∙ w.if-is.false) c.loop-i.invariant.1))
+    ]
 
 pub returns : goal.returns
 unfolding rules.codes

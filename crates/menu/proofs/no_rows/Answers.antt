@@ -6,7 +6,6 @@ use lib.ListN.{replicate}
 use Rattle.lists.specs.Lists.{padded}
 use Rattle.rules.specs.declared.Row.{Row}
 use Rattle.menu.proofs.Tidy.{stands}
-use borrow.Author.Rules.{rules}
 use Rattle.menu.proofs.no_rows.Goals as goal
 
 pub returns : goal.returns

@@ -1,9 +1,8 @@
 -- `menu::without` meets its contract: the invariant: what stands in the new array is what is kept of the first i rows.
 -- Assumes nothing.
-use Prim.Native.Nat.{ℕ, ◌≤◌, ◌-◌}
+use Prim.Native.Nat.{ℕ}
 use mathlib.Core.Path.{◌≡◌, ap, subst}
 use mathlib.Core.Bool.{not}
-use mathlib.Core.Logic.{⊎_elim}
 use native.Mathlib.Omega.{arith}
 use lib.ListN.{length, replicate}
 use borrow.Author.Tests.{eq-eqb, ne_eqb}
@@ -22,9 +21,10 @@ loop-i-init c = (search rules, record { few = search rules; form = ap (λ (b : R
 pub loop-i-preserved : goal.loop-i-preserved
 loop-i-preserved c =
     let h : length c.args.rows.at ≡ 12 = long _ c.requires in
-    elim c.if-row-applet.branch
-    [ then-row-applet w ↦ (search rules, rw (w.at-is, w.k-is) (kept-yes 12 blank _ _ _ _ _ _ (omega arith) (omega arith) (ap not (ne_eqb _ _ w.if-row-applet.true)) c.loop-i.invariant.1))
-    | else-row-applet w ↦ (search rules, rw (w.at-is, w.k-is) (kept-no 12 blank _ _ _ _ _ _ (omega arith) (ap not (eq-eqb _ _ w.if-row-applet.false)) c.loop-i.invariant.1)) ]
+    elim c.if-row-applet.branch [
+      | then-row-applet w ↦ (search rules, rw (w.at-is, w.k-is) (kept-yes 12 blank _ _ _ _ _ _ (omega arith) (omega arith) (ap not (ne_eqb _ _ w.if-row-applet.true)) c.loop-i.invariant.1))
+      | else-row-applet w ↦ (search rules, rw (w.at-is, w.k-is) (kept-no 12 blank _ _ _ _ _ _ (omega arith) (ap not (eq-eqb _ _ w.if-row-applet.false)) c.loop-i.invariant.1))
+    ]
 
 pub returns : goal.returns
 returns c =

@@ -1,11 +1,10 @@
 -- `has_shown_row` meets its contract. The invariant: whether one of the rows is it is told by those from i on.
 -- Assumes nothing.
-use Prim.Native.Nat.{◌-◌}
 use mathlib.Core.Path.{sym, ◌∙◌}
 use native.Mathlib.Omega.{arith}
-use Rattle.lists.proofs.Looking.{Looking, looking-none, looking-more, looking-hit, looking-all}
+use Rattle.lists.proofs.Looking.{looking-none, looking-more, looking-hit, looking-all}
 use Rattle.menu.proofs.Tidy.{long}
-use Rattle.menu_shown.proofs.Answers.{shown_to, shown-row}
+use Rattle.menu_shown.proofs.Answers.{shown-row}
 use borrow.Author.Rules.{rules}
 use Rattle.rules.specs.Held.{view_row}
 use Rattle.menu_shown.proofs.has_shown_row.Goals as goal

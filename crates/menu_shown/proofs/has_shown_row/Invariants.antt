@@ -1,12 +1,7 @@
 -- `has_shown_row` meets its contract. The invariant: whether one of the rows is it is told by those from i on.
 use Prim.Native.Nat.{◌-◌}
-use mathlib.Core.Path.{sym, ◌∙◌}
-use native.Mathlib.Omega.{arith}
-use Rattle.lists.proofs.Looking.{Looking, looking-none, looking-more, looking-hit, looking-all}
-use Rattle.menu.proofs.Tidy.{long}
-use Rattle.menu_shown.proofs.Answers.{shown_to, shown-row}
-use borrow.Author.Rules.{rules}
-use Rattle.rules.specs.Held.{view_row}
+use Rattle.lists.proofs.Looking.{Looking}
+use Rattle.menu_shown.proofs.Answers.{shown_to}
 use Rattle.menu_shown.proofs.has_shown_row.Given as goal
 
 abbrev pub invariant-loop-i : goal.invariant-loop-i

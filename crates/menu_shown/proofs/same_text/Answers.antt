@@ -1,13 +1,12 @@
 -- `shown::same_text` meets its contract: the invariant: whether the texts are the same is told by what follows their first i bytes.
 -- Assumes nothing.
-use Prim.Native.Nat.{◌-◌}
 use mathlib.Core.Path.{◌≡◌}
 use native.Mathlib.Omega.{arith}
 use borrow.Author.Tests.{eq-eqb, ne_eqb}
 use lib.Dec.{eqb}
 use lib.ListN.{length}
 use Rattle.lists.specs.Lists.{same?}
-use Rattle.lists.proofs.Looking.{Matching, matching-none, matching-more, matching-other, matching-all}
+use Rattle.lists.proofs.Looking.{matching-none, matching-more, matching-other, matching-all}
 use Rattle.rules.specs.Held.{view_row}
 use Rattle.menu.proofs.Tidy.{text-within}
 use Rattle.menu_shown.proofs.Answers.{other_length}

@@ -3,7 +3,6 @@
 use Prim.Native.Nat.{ℕ}
 use mathlib.Core.Path.{ap}
 use mathlib.Core.Bool.{not}
-use borrow.Author.Rules.{rules}
 use Rattle.std.specs.Prelude.{◌==◌}
 use Rattle.polling.proofs.any_polled.Goals as goal
 

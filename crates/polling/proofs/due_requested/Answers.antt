@@ -1,7 +1,6 @@
 -- `due_requested` meets its contract.
 -- Assumes nothing.
 use Rattle.polling.proofs.OneRequest.{due-by-request}
-use borrow.Author.Rules.{rules}
 use Rattle.polling.proofs.due_requested.Goals as goal
 
 pub returns : goal.returns

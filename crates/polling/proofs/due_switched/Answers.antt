@@ -1,7 +1,6 @@
 -- `due_switched` meets its contract.
 -- Assumes nothing.
 use Rattle.polling.proofs.OneRequest.{due-by-switch}
-use borrow.Author.Rules.{rules}
 use Rattle.polling.proofs.due_switched.Goals as goal
 
 pub returns : goal.returns

@@ -7,7 +7,6 @@ use Rattle.sets.specs.Sets.{switched_set}
 use Rattle.polling.specs.Polls.{shorter_of, interval_of}
 use Rattle.polling.proofs.Intervals.{after_same}
 use Rattle.polling.proofs.OneRequest.{due-by-parts}
-use borrow.Author.Rules.{rules}
 use Rattle.polling.proofs.due_turned.Goals as goal
 
 pub returns-then-before-after : goal.returns-then-before-after

@@ -1,7 +1,6 @@
 -- `poll_with` meets its contract.
 -- Assumes nothing.
 use native.Mathlib.Omega.{arith}
-use borrow.Author.Rules.{rules}
 use Rattle.applets.proofs.Made.{with-set, with-still}
 use Rattle.polling.proofs.poll_with.Goals as goal
 

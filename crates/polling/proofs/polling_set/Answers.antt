@@ -1,11 +1,7 @@
 -- `polling_set` meets its contract: the loop goes from the last place to the first, and has the set of those that it passed.
 -- Assumes nothing.
-use mathlib.Core.Path.{◌≡◌}
-use Prim.Native.Nat.{◌≤◌}
 use native.Mathlib.Omega.{arith}
-use lib.ListN.{drop}
-use Rattle.sets.specs.Sets.{valued}
-use Rattle.polling.proofs.Intervals.{asks, set-none, set-small, set-yes, set-no, set_all}
+use Rattle.polling.proofs.Intervals.{set-none, set-small, set-yes, set-no, set_all}
 use Rattle.polling.proofs.polling_set.Goals as goal
 
 pub loop-i-init : goal.loop-i-init

@@ -1,12 +1,7 @@
 -- `system_interval` meets its contract: the loop goes from the last place to the first, and has the interval of those that it passed.
 -- Assumes nothing.
-use mathlib.Core.Path.{◌≡◌}
-use Prim.Native.Nat.{◌≤◌}
 use native.Mathlib.Omega.{arith}
-use lib.ListN.{drop}
-use Rattle.lists.proofs.Least.{least_of}
-use Rattle.polling.proofs.Intervals.{counted, interval-none, interval-yes, interval-no, interval-all}
-use borrow.Author.Rules.{rules}
+use Rattle.polling.proofs.Intervals.{interval-none, interval-yes, interval-no, interval-all}
 use Rattle.polling.proofs.system_interval.Goals as goal
 
 pub loop-i-init : goal.loop-i-init

@@ -3,7 +3,6 @@
 use native.Mathlib.Omega.{arith}
 use mathlib.Core.Path.{sym, ◌∙◌}
 use Rattle.sets.proofs.Bits.{is-number, single-is, single-none}
-use borrow.Author.Rules.{rules}
 use Rattle.sets.proofs.bit.Goals as goal
 
 pub overflow_sub-result : goal.overflow_sub-result

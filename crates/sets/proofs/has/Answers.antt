@@ -3,7 +3,6 @@
 use native.Mathlib.Omega.{arith}
 use mathlib.Core.Path.{sym, ◌∙◌}
 use Rattle.sets.proofs.Bits.{is-number, has-read, has-none}
-use borrow.Author.Rules.{rules}
 use Rattle.sets.proofs.has.Goals as goal
 
 pub overflow_sub-result : goal.overflow_sub-result

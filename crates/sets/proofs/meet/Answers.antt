@@ -5,7 +5,6 @@ use mathlib.Core.Path.{ap, ◌∙◌}
 use mathlib.Core.Bool.{not}
 use lib.Dec.{eqb}
 use Rattle.sets.proofs.Bits.{set-some}
-use borrow.Author.Rules.{rules}
 use Rattle.sets.proofs.meet.Goals as goal
 
 pub returns : goal.returns

@@ -5,7 +5,6 @@ use mathlib.Core.Bool.{Bool}
 use Rattle.std.specs.Prelude.{if◌then◌else◌, ◌==◌}
 use Rattle.sets.specs.Sets.{set_of, has?}
 use Rattle.sets.proofs.Bits.{turned_on, turned-off}
-use borrow.Author.Rules.{rules}
 use Rattle.sets.proofs.switched.Goals as goal
 
 pub returns-then-on : goal.returns-then-on

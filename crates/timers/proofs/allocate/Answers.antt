@@ -4,10 +4,8 @@ use mathlib.Core.Path.{◌≡◌, sym, ◌∙◌}
 use mathlib.Core.Bool.{true, false}
 use native.Mathlib.Omega.{arith}
 use lib.ListN.{length}
-use borrow.Author.Tests.{not-true, not-false}
 use Rattle.rules.specs.Timers.{is_owner, at_limit}
-use Rattle.timers.proofs.Owners.{owner-between, owners-length, lowest-some, none_free_lem, some-free, allocate-2, allocate-13, allocate-14, allocate-0}
-use borrow.Author.Rules.{rules}
+use Rattle.timers.proofs.Owners.{owner-between, lowest-some, none_free_lem, some-free, allocate-2, allocate-13, allocate-14, allocate-0}
 use Rattle.timers.proofs.allocate.Goals as goal
 
 pub returns-then-not-between : goal.returns-then-not-between

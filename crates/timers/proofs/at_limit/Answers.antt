@@ -1,6 +1,5 @@
 -- `timers::at_limit` meets its contract: the ones of the applet's set are counted.
 -- Assumes nothing.
-use borrow.Author.Rules.{rules}
 use Rattle.timers.proofs.Owners.{held-ones}
 use Rattle.timers.proofs.at_limit.Goals as goal
 

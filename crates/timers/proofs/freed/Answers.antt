@@ -1,14 +1,12 @@
 -- `timers::freed` meets its contract: the first `i` owners are forgotten.
 -- Assumes nothing.
-use mathlib.Core.Path.{◌≡◌, refl}
-use Prim.Native.Nat.{◌≤◌, ◌-◌}
+use mathlib.Core.Path.{refl}
+use Prim.Native.Nat.{◌≤◌}
 use native.Mathlib.Omega.{arith}
 use lib.ListN.{length}
-use borrow.Author.Rules.{rules}
-use Rattle.lists.proofs.InPlace.{mapped_to, mapped-more, mapped-all}
+use Rattle.lists.proofs.InPlace.{mapped-more, mapped-all}
 use Rattle.rules.specs.Applets.{forget}
 use Rattle.rules.specs.Timers.{without_timers}
-use Rattle.timers.proofs.Owners.{owners-length}
 use Rattle.timers.proofs.freed.Goals as goal
 
 pub loop-i-init : goal.loop-i-init

@@ -1,13 +1,9 @@
 -- `timers::freed` meets its contract: the first `i` owners are forgotten.
-use mathlib.Core.Path.{◌≡◌, refl}
+use mathlib.Core.Path.{◌≡◌}
 use Prim.Native.Nat.{◌≤◌, ◌-◌}
-use native.Mathlib.Omega.{arith}
 use lib.ListN.{length}
-use borrow.Author.Rules.{rules}
-use Rattle.lists.proofs.InPlace.{mapped_to, mapped-more, mapped-all}
+use Rattle.lists.proofs.InPlace.{mapped_to}
 use Rattle.rules.specs.Applets.{forget}
-use Rattle.rules.specs.Timers.{without_timers}
-use Rattle.timers.proofs.Owners.{owners-length}
 use Rattle.timers.proofs.freed.Given as goal
 
 abbrev pub invariant-loop-i : goal.invariant-loop-i

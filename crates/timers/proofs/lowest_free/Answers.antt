@@ -4,9 +4,8 @@ use mathlib.Core.Path.{◌≡◌}
 use Prim.Native.Nat.{◌+◌, ◌-◌, ◌^◌, ◌≤◌}
 use native.Mathlib.Omega.{arith}
 use lib.Count.{count_trailing_zeros}
-use borrow.Author.Rules.{rules}
 use Rattle.rules.specs.Timers.{lowest_free}
-use Rattle.timers.proofs.Owners.{owners-length, free-ones, lowest-few}
+use Rattle.timers.proofs.Owners.{free-ones, lowest-few}
 use Rattle.timers.proofs.lowest_free.Goals as goal
 
 pub overflow_add-result : goal.overflow_add-result

@@ -1,11 +1,8 @@
 -- `timers::owner_bits` meets its contract: the loop goes from the last owner to the first, and has the set of those that it passed.
 -- Assumes nothing.
-use mathlib.Core.Path.{◌≡◌, ap, ◌∙◌}
-use Prim.Native.Nat.{◌≤◌}
+use mathlib.Core.Path.{ap, ◌∙◌}
 use native.Mathlib.Omega.{arith}
-use lib.ListN.{drop}
-use borrow.Author.Rules.{rules}
-use Rattle.timers.specs.Sets.{bit, is_between, set_of}
+use Rattle.timers.specs.Sets.{bit}
 use Rattle.timers.proofs.Sets.{set-none, set_more, set-small, set-fits, set_all}
 use Rattle.timers.proofs.owner_bits.Goals as goal
 

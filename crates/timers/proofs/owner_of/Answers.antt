@@ -1,8 +1,7 @@
 -- `timers::owner_of` meets its contract.
 -- Assumes nothing.
 use native.Mathlib.Omega.{arith}
-use borrow.Author.Rules.{rules}
-use Rattle.timers.proofs.Owners.{owner-inside, owner-outside, owner-zero, owners-length}
+use Rattle.timers.proofs.Owners.{owner-inside, owner-outside, owner-zero}
 use Rattle.timers.proofs.owner_of.Goals as goal
 
 pub returns-in-1-to-8 : goal.returns-in-1-to-8

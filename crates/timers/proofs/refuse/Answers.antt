@@ -1,7 +1,6 @@
 -- `timers::refuse` meets its contract.
 -- Assumes nothing.
 use mathlib.Core.Path.{refl}
-use borrow.Author.Rules.{rules}
 use Rattle.timers.proofs.refuse.Goals as goal
 
 pub returns : goal.returns

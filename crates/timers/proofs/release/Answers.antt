@@ -4,10 +4,8 @@ use mathlib.Core.Path.{◌≡◌, sym, ◌∙◌}
 use mathlib.Core.Bool.{true, false}
 use Prim.Native.Nat.{◌≤◌}
 use native.Mathlib.Omega.{arith}
-use borrow.Author.Tests.{not-true, not-false}
 use Rattle.rules.specs.Timers.{is_owner}
-use Rattle.timers.proofs.Owners.{owner-between, owners-length, its-timer, release-2, release-15, release-0}
-use borrow.Author.Rules.{rules}
+use Rattle.timers.proofs.Owners.{owner-between, its-timer, release-2, release-15, release-0}
 use Rattle.timers.proofs.release.Goals as goal
 
 pub returns-then-not-between : goal.returns-then-not-between

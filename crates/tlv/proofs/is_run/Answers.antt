@@ -1,10 +1,7 @@
 -- `tlv::is_run` tells whether a run fills its bytes. The invariant: what is left from here on decides. The measure: the bytes left.
 -- Assumes nothing.
-use Prim.Native.Nat.{◌-◌}
-use mathlib.Core.Path.{◌≡◌}
-use lib.ListN.{length}
 use borrow.Author.Rules.{rules}
-use Rattle.rules.specs.Bytes.{Run, run_at, is_run}
+use Rattle.rules.specs.Bytes.{Run, is_run}
 use Rattle.elements.proofs.Ends.{element-falls}
 use Rattle.tlv.proofs.Runs.{run-case}
 use Rattle.tlv.proofs.is_run.Goals as goal

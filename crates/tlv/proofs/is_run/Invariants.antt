@@ -2,10 +2,7 @@
 use Prim.Native.Nat.{◌-◌}
 use mathlib.Core.Path.{◌≡◌}
 use lib.ListN.{length}
-use borrow.Author.Rules.{rules}
-use Rattle.rules.specs.Bytes.{Run, run_at, is_run}
-use Rattle.elements.proofs.Ends.{element-falls}
-use Rattle.tlv.proofs.Runs.{run-case}
+use Rattle.rules.specs.Bytes.{run_at, is_run}
 use Rattle.tlv.proofs.is_run.Given as goal
 
 abbrev pub invariant-loop-next : goal.invariant-loop-next

@@ -1,11 +1,8 @@
 -- `tlv::locate` finds an element. The invariant: what is left to find from here on is what is to be found. The measure: the bytes left.
 -- Assumes nothing.
-use Prim.Native.Nat.{◌≤◌, ◌-◌}
-use mathlib.Core.Path.{◌≡◌}
-use lib.ListN.{length}
 use borrow.Author.Rules.{rules}
 use Rattle.lists.proofs.Picks.{picks}
-use Rattle.rules.specs.Bytes.{run_at, occurring, found}
+use Rattle.rules.specs.Bytes.{found}
 use Rattle.elements.proofs.Ends.{element-falls}
 use Rattle.tlv.proofs.Runs.{left_by, left-case}
 use Rattle.tlv.proofs.locate.Goals as goal

@@ -2,11 +2,7 @@
 use Prim.Native.Nat.{◌≤◌, ◌-◌}
 use mathlib.Core.Path.{◌≡◌}
 use lib.ListN.{length}
-use borrow.Author.Rules.{rules}
-use Rattle.lists.proofs.Picks.{picks}
 use Rattle.rules.specs.Bytes.{run_at, occurring, found}
-use Rattle.elements.proofs.Ends.{element-falls}
-use Rattle.tlv.proofs.Runs.{left_by, left-case}
 use Rattle.tlv.proofs.locate.Given as goal
 
 abbrev pub invariant-loop-number : goal.invariant-loop-number

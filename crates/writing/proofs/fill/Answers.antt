@@ -5,7 +5,6 @@ use mathlib.Core.Path.{sym}
 use lib.ListN.{length}
 use lib.Seq.{take_all, length-take-le}
 use Rattle.lists.proofs.Writing.{wrote_as}
-use borrow.Author.Rules.{rules}
 use Rattle.writing.proofs.fill.Goals as goal
 
 pub slice_bounds-put-end : goal.slice_bounds-put-end

@@ -1,7 +1,6 @@
 -- `held_profile` meets its contract.
 -- Assumes nothing.
 use Rattle.lists.proofs.Writing.{wrote-padded}
-use borrow.Author.Rules.{rules}
 use Rattle.writing.proofs.held_profile.Goals as goal
 
 pub returns : goal.returns

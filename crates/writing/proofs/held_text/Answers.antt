@@ -1,7 +1,6 @@
 -- `held_text` meets its contract.
 -- Assumes nothing.
 use Rattle.lists.proofs.Writing.{wrote-padded}
-use borrow.Author.Rules.{rules}
 use Rattle.writing.proofs.held_text.Goals as goal
 
 pub returns : goal.returns

@@ -1,8 +1,7 @@
 -- `writing::put` meets its contract: the loop has copied the first i bytes.
 -- Assumes nothing.
-use Prim.Native.Nat.{◌-◌}
 use borrow.Author.Rules.{rules}
-use Rattle.lists.proofs.Writing.{Copied, copied_none, copied_more, copied_all}
+use Rattle.lists.proofs.Writing.{copied_none, copied_more, copied_all}
 use Rattle.writing.proofs.put.Goals as goal
 
 pub loop-i-init : goal.loop-i-init

@@ -1,7 +1,6 @@
 -- `writing::put` meets its contract: the loop has copied the first i bytes.
 use Prim.Native.Nat.{◌-◌}
-use borrow.Author.Rules.{rules}
-use Rattle.lists.proofs.Writing.{Copied, copied_none, copied_more, copied_all}
+use Rattle.lists.proofs.Writing.{Copied}
 use Rattle.writing.proofs.put.Given as goal
 
 abbrev pub invariant-loop-i : goal.invariant-loop-i

@@ -1,7 +1,6 @@
 -- `envelopes::handler::is_malformed` judges an envelope.
 -- Assumes nothing.
 use Rattle.envelopes.proofs.Judged.{unknown, no-devices, call-control, no_byte, menu-selection, other-one}
-use borrow.Author.Rules.{rules}
 use Rattle.envelopes.proofs.handler.is_malformed.Goals as goal
 
 pub returns-then-tag-eq212 : goal.returns-then-tag-eq212
