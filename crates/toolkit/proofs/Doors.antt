@@ -1,25 +1,22 @@
--- How a door is made for the walk (`lent_calls`, Walk.antt): of a call on a card, and of one on a bank alone.
+-- What a card's method hands back is what its door does.
 -- Assumes nothing.
-use mathlib.Core.Path.{◌≡◌, sym, ap, subst, ◌∙◌}
-use mathlib.Core.List.{[], ◌∷◌, List}
+use mathlib.Core.Bool.{Bool, true, false}
+use mathlib.Core.Path.{◌≡◌, refl, sym, ap, subst, ◌∙◌}
+use mathlib.Core.List.{[], List}
 use Prim.Native.Nat.{ℕ, zero, suc}
-use mir.Syntax.{Name}
-use Rattle.rules.specs.declared.Answer.{Answer}
-use Rattle.rules.specs.declared.Bank.{Bank}
+use lib.IntN.{ℤ}
+use borrow.Author.Tests.{clash}
 use Rattle.rules.specs.Holds.{Model}
-use Rattle.rules.specs.Calls.{Call}
+use Rattle.rules.specs.Calls.{Call, admin, event, entry, timer, arrival, next, proactive, system_command, ask_event}
 use Rattle.rules.specs.Refusals.{refusal}
 use Rattle.rules.specs.Step.{step, in_buffer, lent, written, outcome}
 use Rattle.card.specs.declared.Card.{Card}
 use Rattle.card.specs.declared.Reply.{Reply}
 use Rattle.card.specs.View.{view, stored, Left}
 use Rattle.card.specs.Replies.{replied, Replies, Fills}
+use Rattle.card.proofs.Asking.{ask-stays}
 use Rattle.card.proofs.Left.{left-again}
-use Rattle.lent_calls.proofs.Pars.{Par, Xs, byte}
-use Rattle.lent_calls.proofs.Results.{Storing, stores, leaves, asks, nought}
-use Rattle.lent_calls.proofs.Walk.{LentCall}
 use Rattle.toolkit.specs.Does.{Does}
-use Rattle.toolkit.proofs.Lent.{card, bank, card-replies, bank-replies}
 
 -- a call that is lent no buffer leaves none
 abbrev pub Unlent : Call → Type 0
@@ -33,6 +30,21 @@ unlent m x u = go (refusal m x)
     go zero = sym (u _)
     go (suc n) = sym (u _)
 
+-- of the calls on a card one is lent a buffer
+abbrev pub is_lent : Call → Bool
+is_lent (system_command buffer) = true
+is_lent x = false
+
+pub no_buffer : (x : Call) → is_lent x ≡ false → Unlent x
+no_buffer (admin x) e f = refl
+no_buffer (event x) e f = refl
+no_buffer (entry x) e f = refl
+no_buffer (timer x) e f = refl
+no_buffer (arrival x) e f = refl
+no_buffer next e f = refl
+no_buffer (proactive x) e f = refl
+no_buffer (system_command buffer) e f = absurd (clash (sym e))
+
 -- the card that a method hands back
 pub card-left : (h : Card) (x : Call) {r : Reply} → Replies h x r → r.card ≡ stored (step (view h) x).after
 unfolding replied
@@ -42,41 +54,16 @@ card-left h x e = ap (λ (r : Reply). r.card) e
 pub as-done : (h : Card) → Left h → (x : Call) {r : Reply} {b : List ℕ} → Replies h x r → Fills h x b → Does h x r.card r.answer b
 as-done h left x e b = record { replies = e; fills = b; left = subst Left (sym (card-left h x e)) (left-again h x left) }
 
--- A DOOR of a call on a card that is lent no buffer: of how many lifetimes beside the card's, of which parameters, at which method, for which call, and
--- whether it stores the card
-module _ (n : ℕ) (ps : List (Par n)) (called : Name) (c : Xs ps → Call) (none : (x : Xs ps) → Unlent (c x)) where
-  abbrev a-door : Storing ((h : Card) (x : Xs ps) (r : Reply) → Left h → Replies h (c x) r → r.card ≡ h) → LentCall
-  a-door s = record {
-    it = card;
-    kind = card-replies;
-    n = n;
-    params = ps;
-    name = called;
-    asking = asks Left;
-    said = λ h x r. Replies h (c x) r;
-    storing = s;
-    promise = λ h x w k. Does h (c x) k w [];
-    keeps = λ h x r left e. as-done h left (c x) e (unlent (view h) (c x) (none x));
-  }
+-- A DOOR of a call that is lent no buffer
+pub done : (h : Card) (x : Call) (r : Reply) → Left h → Replies h x r → is_lent x ≡ false → Does h x r.card r.answer []
+done h x r left e n = as-done h left x e (unlent (view h) x (no_buffer x n))
 
-  abbrev pub door : LentCall
-  door = a-door stores
+-- of ask event, which leaves the lent card as it stands
+pub asked : (h : Card) (n : ℕ) (v : ℤ) (r : Reply) → Left h → Replies h (event (ask_event n v)) r → Does h (event (ask_event n v)) h r.answer []
+asked h n v r left e =
+    let x = event (ask_event n v) in
+    subst (λ (c : Card). Does h x c r.answer []) (card-left h x e ∙ sym (ask-stays h left n v)) (done h x r left e refl)
 
-  -- of a call that leaves the card
-  abbrev pub window : ((h : Card) → Left h → (x : Xs ps) → h ≡ stored (step (view h) (c x)).after) → LentCall
-  window stays = a-door (leaves (λ h x r left e. card-left h (c x) e ∙ sym (stays h left x)))
-
--- A DOOR OF THE BANK ALONE, of two bytes: what its function promises of the bank before, the bytes, the answer and the bank after
-abbrev pub bank-door : Name → (Bank → (n m : ℕ) → Answer → Bank → Type 0) → LentCall
-bank-door called said = record {
-  it = bank;
-  kind = bank-replies;
-  n = 0;
-  params = byte ∷ byte ∷ [];
-  name = called;
-  asking = nought;
-  said = λ h x r. said h x.0 x.1.0 r.answer r.bank;
-  storing = stores;
-  promise = λ h x w b. said h x.0 x.1.0 w b;
-  keeps = λ h x r _ s. s;
-}
+-- of the system command, which is lent a buffer
+pub handed : (h : Card) (b c : List ℕ) (r : Reply) → Left h → Replies h (system_command b) r → Fills h (system_command b) c → Does h (system_command b) r.card r.answer c
+handed h b c r left e f = as-done h left (system_command b) e f

@@ -1,6 +1,4 @@
--- The parameters of doors; what is lent to them; the makers of doors; the doors' promises; and laws of what a caller in C gets beside the card.
-pub mod Params
-pub mod Lent
+-- What a card's method hands back is what its door does; the doors' promises; and laws of what a caller in C gets beside the card.
 pub mod Doors
 pub mod Promise
 mod BesideLaws

@@ -1,5 +1,7 @@
 // A door for each call of a card, which is lent by its owner and changed where it stands.
 // Each takes a card that a fresh card and calls have left, and leaves such a card; the answer is one struct.
+#![tactic(auto, using(crate::proofs::Doors::done))]
+
 ghost use Rattle.std.specs.Prelude.{[]};
 ghost use Rattle.rules.specs.Calls.{admin, event, entry, timer as timer-call, arrival, next, proactive, system_command};
 ghost use Rattle.rules.specs.Calls.{install, delete, lock, unlock, set_event, clear_event, ask_event, request_poll, new_entry, change_entry, enable_entry, disable_entry};
@@ -83,6 +85,7 @@ pub extern "C" fn toolkit_clear_event(card: &mut Card, applet: u8, value: i16) -
 }
 
 // Tells whether an applet is registered for an event.
+#[tactic(auto, using(crate::proofs::Doors::asked))]
 #[unsafe(no_mangle)]
 pub extern "C" fn toolkit_ask_event(card: &mut Card, applet: u8, value: i16) -> Answer
     requires { Left card.old }
@@ -256,6 +259,7 @@ pub extern "C" fn toolkit_send(card: &mut Card, applet: u8, bytes: &[u8]) -> Ans
 }
 
 // Hands out the command that is due, at the front of a lent buffer.
+#[tactic(auto, using(crate::proofs::Doors::handed))]
 #[unsafe(no_mangle)]
 pub extern "C" fn toolkit_system_command(card: &mut Card, buf: &mut [u8]) -> Answer
     requires { Left card.old }

@@ -2,7 +2,7 @@
 // include/toolkit.h says the same to a C programmer; a card and a bank are lent by their owner and changed where they stand.
 #![tactic(auto)]
 
-mod calls;
+pub mod calls;
 
 ghost use Rattle.rules.specs.Readers.{ReadsMenu};
 ghost use Rattle.timers.specs.Promises.{Allocates, Releases};
@@ -14,7 +14,7 @@ use rules::{Answer, Bank, Found, Menu};
 
 // A fresh card, and the refusal's number (0: none).
 #[repr(C)]
-#[derive(Drop)]
+#[derive(Clone, Copy)]
 pub struct Made {
     pub card: Card,
     pub refusal: u8,
@@ -22,7 +22,7 @@ pub struct Made {
 
 // A part of the caller's bytes, and whether there is one.
 #[repr(C)]
-#[derive(Drop)]
+#[derive(Clone, Copy)]
 pub struct Spot {
     pub start: usize,
     pub len: usize,
@@ -44,6 +44,7 @@ pub extern "C" fn toolkit_fresh(title: &[u8]) -> Made
 }
 
 // Where something was found, as C gets it.
+#[tactic(auto, unfolding(crate::specs::Beside::spot_of))]
 fn spot_of(place: Found) -> Spot
     ensures { result ≡ spot_of place }
 {
