@@ -5,33 +5,26 @@ use Prim.Native.Nat.{ℕ, zero}
 use mathlib.Core.List.{[], ◌∷◌, List}
 use lib.ListN.{get_or}
 use seplogic.Ra.Ura.{Ura}
-use seplogic.Ra.TreeShare.{full_share}
+use base.Fraction.{full_share}
 use lib.Dec.{T}
-use mir.Syntax.{Name, Sym, Ty, ty_struct, tcons, tnil, Body as Code, seq, assign, call, return, place, deref, field, rv_opd, copy}
+use mir.Syntax.{Ty, ty_struct, tcons, tnil, Body as Code, seq, assign, return, place, deref, field, rv_opd, copy}
 use mir.Val.{Val, vptr, vstruct, vcons, vnil, has_ty, WT}
-use base.Logic.{SProp, ent, sep, emp, via, comm∗, emp∗, fst∗, snd∗, ex_e, id⊢}
-use base.Fml.{ftrue, fat, froom}
+use base.Logic.{SProp, ent, sep, emp, via, comm∗, emp∗, fst∗}
+use base.Fml.{fat, froom}
 use prog.Wp.{Calls, Loops, Env, no_local}
 use types.Logic.{Logic}
 use contract.Monad.{fact}
-use types.Kit.{Item, ‵, raw, ◌⊛◌, some, later, prop, runs, Post as Ends, Seq, Step, ◌$◌, ◌∵◌, !, qed, move, drop, use1, split, join, pick, fjoin, rewrite, suffices, frame, await, done}
-use types.Run.{look, init, store_raw, stop, hop, fld, from, load, and_then, no_more, of_opd, assigns, land}
+use types.Kit.{Item, ‵, prop, runs, Post as Ends, Seq, Step, ◌$◌, rewrite, suffices}
+use types.Run.{look, init, store_raw, stop, hop, fld, from, load, of_opd, assigns}
 use types.Part.{whole, sub, look_in}
-use sound.WpLaws.{FmC}
 use denote.RattleType.{RattleType}
-use denote.Laws.{Is, Makes, shows}
+use denote.Laws.{Is}
 use denote.Memory.{cell_at, lone}
-use denote.Signature.{plain}
-use denote.Steps.{owned, peeks, heard, nothing}
+use denote.Steps.{owned}
 use denote.Struct.Struct.{Plains}
 use denote.Struct.Declared.{Declared, row, fields}
 use denote.Struct.Laws as LL
-use denote.Triple.Statement.{Contract, Triple}
-use denote.Triple.Call.{calls_at}
-use denote.Triple.Spec.{triple_of}
 use denote.Triple.Walked.{says, needs}
-use denote.Triple.Clauses.{Ended, Clauses, closing, ensured, lasts}
-use denote.Exit.{yes}
 use Rattle.lent_calls.proofs.Pars.{at}
 
 -- ---- a struct, with its laws

@@ -6,8 +6,8 @@ use Prim.Native.Nat.{ℕ, suc}
 use mathlib.Core.List.{[], ◌∷◌, List, ◌++◌}
 use lib.ListN.{get_or}
 use seplogic.Ra.Ura.{Ura}
-use seplogic.Ra.TreeShare.{full_share}
-use mir.Syntax.{Name, Ty, ty_ref, ty_named, named, mut, Fn, local, value_local, seq, assign, call, return, place, deref, field, rv_opd, copy}
+use base.Fraction.{full_share}
+use mir.Syntax.{Callee, Ty, tnil, ty_ref, ty_named, named, mut, Fn, local, value_local, seq, assign, call, return, place, deref, field, rv_opd, copy}
 use mir.Val.{Val, vptr}
 use base.Logic.{SProp, ent, snd∗, ex_e, id⊢}
 use base.Fml.{GName, Fml, flft, fobs, fbor, fat, fsep}
@@ -50,7 +50,7 @@ pub record LentCall : Type 2 where
   pub kind : Kind it
   pub n : ℕ
   pub params : List (Par n)
-  pub name : Name
+  pub name : Callee
   pub asking : Asking it.type.D
   pub said : it.type.D → Xs params → kind.results.type.D → Type 0
   pub storing : Storing ((h : it.type.D) (x : Xs params) (r : kind.results.type.D) → Met asking h → said h x r → kind.it r ≡ h)
@@ -74,13 +74,15 @@ module _ (D : LentCall) where
   Held = B.type.D
 
   abbrev ref_ty : Ty
-  ref_ty = ty_ref (named 0) mut (ty_named (B.type.name, []))
+  ref_ty = ty_ref (named 0) mut (ty_named (B.type.name, []) tnil)
 
   -- the code
   abbrev pub function : Fn
   function = record {
     lifetimes = suc D.n;
     outlives = [];
+    ty_params = [];
+    givens = 0;
     params = suc (count ps);
     locals = local (ty_of P) value_local ∷ local ref_ty value_local ∷ (locs ps ++ (local (ty_of B) value_local ∷ local (result_ty_of k) value_local ∷ []));
     body =
@@ -215,7 +217,7 @@ module _ (D : LentCall) where
     walks C Λ fm known = walked 𝓛 lent stayed (lends 𝓤) (WpFn 𝓤 H C Λ function) (λ κs. (mut_vals, spells ps κs)) (λ κs. (mut_Tells (named 0) κs.0 (row_of B), tellss ps κs))
         (λ κs qs bounds a _ are. learns 𝓤 D.asking a.0.now _ (λ met.
         subst (λ (vs : List Val). ent 𝓤 (on_entry 𝓛 lent.signature κs qs a (mut_vals a.0, outer_vals ps κs a.1))
-        (WpFn 𝓤 H C Λ function (vptr a.0.ptr.0 a.0.ptr.1 ∷ vs) ((walk_of 𝓛 lent stayed (lends 𝓤)).post ((κs, qs, bounds, a, (mut_vals a.0, outer_vals ps κs a.1)), tt)))) (outer-flat ps κs a.1)
+        (WpFn 𝓤 H C Λ function (vptr a.0.ref_ptr.0 a.0.ref_ptr.1 ∷ vs) ((walk_of 𝓛 lent stayed (lends 𝓤)).post ((κs, qs, bounds, a, (mut_vals a.0, outer_vals ps κs a.1)), tt)))) (outer-flat ps κs a.1)
         (walk 𝓛 κs qs a.0.ref_ptr.0 a.0.ref_ptr.1 a.0.ghost_name a.0.now a.1 C Λ fm known met are.1)))
 
     goes : AllGo 𝓛 (suc D.n) lent.signature.params lent.kept stayed
@@ -227,7 +229,7 @@ module _ (D : LentCall) where
         walk_Meets 𝓛 lent stayed goes (lends 𝓤) (WpFn 𝓤 H 𝓣.C 𝓣.Λ function) (WpFn-mono 𝓤 H 𝓛.laws 𝓣 function) (walks 𝓣.C 𝓣.Λ (fm_of 𝓤 H 𝓛.laws 𝓣) known)
 
 -- ITS ROUTINE meets its promise, over the routine of the method.
-pub opened : (D : LentCall) {M : Type 1} {𝓤 : Ura M} (𝓛 : Logic 𝓤) (𝓜 : Model 𝓤 𝓛.H) (𝓡 : Running 𝓤 𝓛.H 𝓜) (γ : Names) (key : Name) → Closed 𝓤 𝓛.H (tables 𝓤 𝓛.H 𝓜 𝓡 γ).C (tables 𝓤 𝓛.H 𝓜 𝓡 γ).Λ key (function D)
+pub opened : (D : LentCall) {M : Type 1} {𝓤 : Ura M} (𝓛 : Logic 𝓤) (𝓜 : Model 𝓤 𝓛.H) (𝓡 : Running 𝓤 𝓛.H 𝓜) (γ : Names) (key : Callee) → Closed 𝓤 𝓛.H (tables 𝓤 𝓛.H 𝓜 𝓡 γ).C (tables 𝓤 𝓛.H 𝓜 𝓡 γ).Λ key (function D)
     → (g : Routine) → γ D.name ≡ g → Triple 𝓤 (𝓡.run g) (Method D 𝓛)
     → Triple 𝓤 (𝓡.run (γ key)) (triple_of 𝓛 (lent D).signature (closing 𝓛 (lent D) (lends D 𝓤)))
 opened D {𝓤 = 𝓤} 𝓛 𝓜 𝓡 γ key closed g is-g met =
