@@ -1,0 +1,54 @@
+-- `menu_entries::changed` meets its contract: where the applet has the row and the text fits, it has the new text; else nothing changes.
+-- The invariant: none of the first i rows is it.
+-- Assumes nothing.
+use Prim.Native.Nat.{◌-◌}
+use mathlib.Core.Path.{◌≡◌, sym, ◌∙◌}
+use mathlib.Core.Logic.{⊎_elim}
+use native.Mathlib.Omega.{arith}
+use Rattle.lists.specs.Lists.{index_of}
+use Rattle.lists.proofs.Search.{Sought, sought-none, sought-more}
+use Rattle.lists.proofs.Truth.{and_left}
+use Rattle.rules.specs.Held.{view_rows}
+use Rattle.menu.proofs.Tidy.{long}
+use Rattle.rules.specs.Rows.{its_row}
+use Rattle.menu_entries.proofs.Changes.{is_row, in_array, at-end, at_row, none-reworded, old-tidy, one-reworded}
+use borrow.Author.Rules.{rules}
+use Rattle.menu_entries.proofs.changed.Goals as goal
+
+pub loop-i-init : goal.loop-i-init
+loop-i-init c = sought-none _ _ _
+
+pub loop-i-preserved : goal.loop-i-preserved
+loop-i-preserved c =
+    let l = long _ c.requires in
+    sought-more _ _ _ (omega arith) _ _ (search rules) (sym c.is_row.ensures ∙ c.if-is_row.false) c.loop-i.invariant
+
+pub bounds-at-i-then-its-fits : goal.bounds-at-i-then-its-fits
+bounds-at-i-then-its-fits c = in_array _ _ c.requires (and_left _ _ c.if-its-fits.true)
+
+pub turns_text-turns-requires : goal.turns_text-turns-requires
+turns_text-turns-requires c =
+    let found : c.loop-i.i ≡ index_of (its_row c.args.applet c.args.identifier) (view_rows c.args.rows) = ⊎_elim
+    (λ w. at-end _ _ _ _ c.requires c.loop-i.invariant (search rules))
+    (λ w. at_row _ _ _ _ c.requires c.loop-i.invariant _ (search rules) (sym w.2.ensures ∙ w.3.taken))
+    c.loop-i-test.branch in
+    old-tidy _ _ _ _ c.requires found (and_left _ _ c.if-its-fits.true) _
+
+pub bounds-at-i-then-its-fits-2 : goal.bounds-at-i-then-its-fits-2
+bounds-at-i-then-its-fits-2 c = in_array _ _ c.requires (and_left _ _ c.if-its-fits.true)
+
+pub returns-then-its-fits : goal.returns-then-its-fits
+returns-then-its-fits c =
+    let found : c.loop-i.i ≡ index_of (its_row c.args.applet c.args.identifier) (view_rows c.args.rows) = ⊎_elim
+    (λ w. at-end _ _ _ _ c.requires c.loop-i.invariant (search rules))
+    (λ w. at_row _ _ _ _ c.requires c.loop-i.invariant _ (search rules) (sym w.2.ensures ∙ w.3.taken))
+    c.loop-i-test.branch in
+    one-reworded _ _ _ _ c.requires found (and_left _ _ c.if-its-fits.true) _ c.args.fits c.args.help c.args.text.now _ c.if-its-fits.true c.reworded-row.ensures c.turns_text-turns.ensures
+
+pub returns-else-its-fits : goal.returns-else-its-fits
+returns-else-its-fits c =
+    let found : c.loop-i.i ≡ index_of (its_row c.args.applet c.args.identifier) (view_rows c.args.rows) = ⊎_elim
+    (λ w. at-end _ _ _ _ c.requires c.loop-i.invariant (search rules))
+    (λ w. at_row _ _ _ _ c.requires c.loop-i.invariant _ (search rules) (sym w.2.ensures ∙ w.3.taken))
+    c.loop-i-test.branch in
+    none-reworded _ _ _ _ c.requires found c.args.fits c.args.help c.args.text.now c.if-its-fits.false

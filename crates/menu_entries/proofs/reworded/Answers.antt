@@ -1,0 +1,10 @@
+-- `menu_entries::reworded` meets its contract: the row keeps the rest, with its text as `held_text` and `text_len` give it.
+-- Assumes nothing.
+use mathlib.Core.Path.{refl}
+use Rattle.rules.specs.Held.{view_row, stored_row}
+use borrow.Author.Rules.{rules}
+use Rattle.menu_entries.proofs.reworded.Goals as goal
+
+pub returns : goal.returns
+unfolding view_row stored_row
+returns c = rw (c.held_text-bytes.ensures, c.text_len.ensures.0) refl
