@@ -14,6 +14,7 @@ use Rattle.rules.specs.Rows.{its_row}
 use Rattle.menu_entries.proofs.Changes.{is_row, in_array, at-end, at_row, none-reworded, old-tidy, one-reworded}
 use borrow.Author.Rules.{rules}
 use Rattle.menu_entries.proofs.changed.Goals as goal
+use Rattle.menu_entries.proofs.changed.Goals.{else-loop-i-test, then-loop-i-test+then-is_row}
 
 pub loop-i-init : goal.loop-i-init
 loop-i-init c = sought-none _ _ _
@@ -28,10 +29,9 @@ bounds-at-i-then-its-fits c = in_array _ _ c.requires (and_left _ _ c.if-its-fit
 
 pub turns_text-turns-requires : goal.turns_text-turns-requires
 turns_text-turns-requires c =
-    let found : c.loop-i.i ≡ index_of (its_row c.args.applet c.args.identifier) (view_rows c.args.rows) = ⊎_elim
-    (λ w. at-end _ _ _ _ c.requires c.loop-i.invariant (search rules))
-    (λ w. at_row _ _ _ _ c.requires c.loop-i.invariant _ (search rules) (sym w.2.ensures ∙ w.3.taken))
-    c.loop-i-test.branch in
+    let found : c.loop-i.i ≡ index_of (its_row c.args.applet c.args.identifier) (view_rows c.args.rows) = elim c.loop-i-test.branch
+    [ else-loop-i-test w ↦ at-end _ _ _ _ c.requires c.loop-i.invariant (search rules)
+    | then-loop-i-test+then-is_row w ↦ at_row _ _ _ _ c.requires c.loop-i.invariant _ (search rules) (sym w.is_row.ensures ∙ w.if-is_row.true) ] in
     old-tidy _ _ _ _ c.requires found (and_left _ _ c.if-its-fits.true) _
 
 pub bounds-at-i-then-its-fits-2 : goal.bounds-at-i-then-its-fits-2
@@ -39,16 +39,14 @@ bounds-at-i-then-its-fits-2 c = in_array _ _ c.requires (and_left _ _ c.if-its-f
 
 pub returns-then-its-fits : goal.returns-then-its-fits
 returns-then-its-fits c =
-    let found : c.loop-i.i ≡ index_of (its_row c.args.applet c.args.identifier) (view_rows c.args.rows) = ⊎_elim
-    (λ w. at-end _ _ _ _ c.requires c.loop-i.invariant (search rules))
-    (λ w. at_row _ _ _ _ c.requires c.loop-i.invariant _ (search rules) (sym w.2.ensures ∙ w.3.taken))
-    c.loop-i-test.branch in
+    let found : c.loop-i.i ≡ index_of (its_row c.args.applet c.args.identifier) (view_rows c.args.rows) = elim c.loop-i-test.branch
+    [ else-loop-i-test w ↦ at-end _ _ _ _ c.requires c.loop-i.invariant (search rules)
+    | then-loop-i-test+then-is_row w ↦ at_row _ _ _ _ c.requires c.loop-i.invariant _ (search rules) (sym w.is_row.ensures ∙ w.if-is_row.true) ] in
     one-reworded _ _ _ _ c.requires found (and_left _ _ c.if-its-fits.true) _ c.args.fits c.args.help c.args.text.now _ c.if-its-fits.true c.reworded-row.ensures c.turns_text-turns.ensures
 
 pub returns-else-its-fits : goal.returns-else-its-fits
 returns-else-its-fits c =
-    let found : c.loop-i.i ≡ index_of (its_row c.args.applet c.args.identifier) (view_rows c.args.rows) = ⊎_elim
-    (λ w. at-end _ _ _ _ c.requires c.loop-i.invariant (search rules))
-    (λ w. at_row _ _ _ _ c.requires c.loop-i.invariant _ (search rules) (sym w.2.ensures ∙ w.3.taken))
-    c.loop-i-test.branch in
+    let found : c.loop-i.i ≡ index_of (its_row c.args.applet c.args.identifier) (view_rows c.args.rows) = elim c.loop-i-test.branch
+    [ else-loop-i-test w ↦ at-end _ _ _ _ c.requires c.loop-i.invariant (search rules)
+    | then-loop-i-test+then-is_row w ↦ at_row _ _ _ _ c.requires c.loop-i.invariant _ (search rules) (sym w.is_row.ensures ∙ w.if-is_row.true) ] in
     none-reworded _ _ _ _ c.requires found c.args.fits c.args.help c.args.text.now c.if-its-fits.false

@@ -23,7 +23,7 @@ abbrev pub decreases-loop-i : goal.decreases-loop-i
 decreases-loop-i l = l.n - l.i
 
 abbrev pub invariant-loop-i-then-n-lt-MOST : goal.invariant-loop-i-then-n-lt-MOST
-invariant-loop-i-then-n-lt-MOST l = (l.k ≤ l.i) × (l.i ≤ l.n) × Open 12 blank (map stored_row (view_rows (record { l.at = l.initial.at; l.count = l.n }))) l.i l.at
+invariant-loop-i-then-n-lt-MOST l = (l.k ≤ l.i) × (l.i ≤ l.n) × Open 12 blank (map stored_row (view_rows (record { at = l.initial.at; count = l.n }))) l.i l.at
 
 abbrev pub decreases-loop-i-then-n-lt-MOST : goal.decreases-loop-i-then-n-lt-MOST
 decreases-loop-i-then-n-lt-MOST l = l.i
