@@ -1,4 +1,4 @@
-/* The toolkit runtime of a SIM, for C11 and C++17; link libtoolkit.a (`rt staticlib toolkit`), which needs memcpy, memmove and memset alone.
+/* The toolkit runtime of a SIM, for C11 and C++17; link libtoolkit.a (`scripts/library`), which needs memcpy, memmove and memset alone.
 
    A card is 472 bytes of the caller's memory, at an even address, with no pointer in it. Make it by toolkit_fresh, change it by the calls
    below only: they take for granted that a fresh card and calls have left it so. It may be read, copied and moved at will. The library
