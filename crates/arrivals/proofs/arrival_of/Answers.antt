@@ -4,7 +4,6 @@ use Rattle.arrivals.proofs.Rounds.{row_kept}
 use mathlib.Core.Path.{sym, ap, ◌∙◌}
 use Rattle.rules.specs.Arrivals.{arrival_of}
 use Rattle.rules.specs.Held.{stored_arrival}
-use borrow.Author.Rules.{rules}
 use Rattle.arrivals.proofs.arrival_of.Goals as goal
 
 pub returns-then-help : goal.returns-then-help

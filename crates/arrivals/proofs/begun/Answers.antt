@@ -1,6 +1,5 @@
 -- `begun` meets its contract.
 -- Assumes nothing.
-use borrow.Author.Rules.{rules}
 use Rattle.arrivals.proofs.Answering.{begins}
 use Rattle.arrivals.proofs.begun.Goals as goal
 

@@ -3,7 +3,6 @@
 use mathlib.Core.Path.{sym, ap, ◌∙◌}
 use Rattle.rules.specs.Arrivals.{download}
 use Rattle.rules.specs.Held.{stored_arrival}
-use borrow.Author.Rules.{rules}
 use Rattle.arrivals.proofs.download_of.Goals as goal
 
 pub returns-in-Event : goal.returns-in-Event

@@ -2,7 +2,6 @@
 -- Assumes nothing.
 use mathlib.Core.Path.{ap}
 use mathlib.Core.Bool.{Bool, true, not}
-use borrow.Author.Rules.{rules}
 use Rattle.arrivals.proofs.envelope_marks.Goals as goal
 
 pub returns : goal.returns

@@ -2,7 +2,6 @@
 -- Assumes nothing.
 use Rattle.arrivals.proofs.IsFor.{for_as, row-for, expiry-for, nothing_for}
 use Rattle.arrivals.proofs.Rounds.{event-view, expiry-view, arrives, arrives-nothing, arrives-row}
-use borrow.Author.Rules.{rules}
 use Rattle.arrivals.proofs.envelope_whom.Goals as goal
 
 pub returns-then-kind-eq-EVENT : goal.returns-then-kind-eq-EVENT

@@ -1,7 +1,6 @@
 -- `has_response` meets its contract.
 -- Assumes nothing.
 use mathlib.Core.Path.{sym, ap}
-use borrow.Author.Rules.{rules}
 use Rattle.rules.specs.Arrivals.{responds}
 use Rattle.arrivals.proofs.has_response.Goals as goal
 

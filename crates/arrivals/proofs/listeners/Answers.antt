@@ -2,7 +2,6 @@
 -- Assumes nothing.
 use native.Mathlib.Omega.{arith}
 use Rattle.arrivals.proofs.IsFor.{control-for, place-for, past-for}
-use borrow.Author.Rules.{rules}
 use Rattle.arrivals.proofs.listeners.Goals as goal
 
 pub returns-then-place-eq-CALL_CONTROL : goal.returns-then-place-eq-CALL_CONTROL

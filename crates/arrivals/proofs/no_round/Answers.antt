@@ -6,7 +6,6 @@ use Rattle.lists.specs.Lists.{some?, in?}
 use Rattle.sets.specs.Sets.{numbers, valued, set_of}
 use Rattle.rules.specs.declared.Arrived.{Arrived}
 use Rattle.arrivals.specs.Rounds.{stored_round}
-use borrow.Author.Rules.{rules}
 use Rattle.arrivals.proofs.no_round.Goals as goal
 
 pub returns : goal.returns

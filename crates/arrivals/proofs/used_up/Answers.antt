@@ -1,7 +1,6 @@
 -- `used_up` meets its contract.
 -- Assumes nothing.
 use Rattle.arrivals.proofs.Rounds.{spends, spends-not, spends-never}
-use borrow.Author.Rules.{rules}
 use Rattle.arrivals.proofs.used_up.Goals as goal
 
 pub returns-then-number-eq-HANDLER_AVAILABLE : goal.returns-then-number-eq-HANDLER_AVAILABLE

@@ -2,7 +2,6 @@
 -- Assumes nothing.
 use Rattle.arrivals.proofs.IsFor.{for_as, row-for, expiry-for, status-for, nothing_for}
 use Rattle.arrivals.proofs.Rounds.{event-view, row-view, expiry-view, status-view, nothing-view}
-use borrow.Author.Rules.{rules}
 use Rattle.arrivals.proofs.whom.Goals as goal
 
 pub returns-then-kind-eq-EVENT : goal.returns-then-kind-eq-EVENT

@@ -1,8 +1,6 @@
 -- `extent_of` meets its contract. Assumes nothing.
-use Prim.Native.Nat.{◌≤◌, ◌-◌}
 use native.Mathlib.Omega.{arith}
 use mathlib.Core.Path.{sym, ap, ◌∙◌}
-use mathlib.Core.Logic.{⊎_elim}
 use mathlib.Core.List.{List}
 use lib.ListN.{length}
 use Rattle.lists.specs.Lists.{some?}
@@ -10,8 +8,8 @@ use Rattle.rules.specs.Holds.{Row}
 use Rattle.rules.specs.Held.{view_rows}
 use Rattle.menu.proofs.Tidy.{long}
 use Rattle.menu_shown.specs.Chosen.{is_shown}
-use Rattle.commands.specs.Fits.{rows_bytes, Fits}
-use Rattle.commands.proofs.Lines.{len-at, rows_under, rows-part, rows_whole, Measured, measured-none, measured-yes, measured-no}
+use Rattle.commands.specs.Fits.{rows_bytes}
+use Rattle.commands.proofs.Lines.{len-at, rows_under, rows-part, rows_whole, measured-none, measured-yes, measured-no}
 use borrow.Author.Rules.{rules}
 use Rattle.commands.proofs.extent_of.Goals as goal
 use Rattle.commands.proofs.extent_of.Goals.{then-is, else-is}
@@ -39,9 +37,10 @@ overflow_add-bytes-then-is c =
 pub loop-i-preserved : goal.loop-i-preserved
 loop-i-preserved c =
     let is = sym c.is_shown-is.ensures in
-    elim c.if-is.branch
-    [ then-is w ↦ (search rules, λ fits. rw (w.bytes-is, w.help-is) (measured-yes _ fits _ c.loop-i.i (search rules) (is ∙ w.if-is.true) (c.loop-i.invariant.1 fits)))
-    | else-is w ↦ (search rules, λ fits. rw (w.bytes-is, w.help-is) (measured-no _ fits _ c.loop-i.i (search rules) (is ∙ w.if-is.false) (c.loop-i.invariant.1 fits))) ]
+    elim c.if-is.branch [
+      | then-is w ↦ (search rules, λ fits. rw (w.bytes-is, w.help-is) (measured-yes _ fits _ c.loop-i.i (search rules) (is ∙ w.if-is.true) (c.loop-i.invariant.1 fits)))
+      | else-is w ↦ (search rules, λ fits. rw (w.bytes-is, w.help-is) (measured-no _ fits _ c.loop-i.i (search rules) (is ∙ w.if-is.false) (c.loop-i.invariant.1 fits)))
+    ]
 
 pub returns : goal.returns
 returns c =

@@ -1,7 +1,6 @@
 -- `put_duration` meets its contract: in seconds, or in minutes.
 -- Assumes nothing.
 use Rattle.commands.proofs.Whole.{wrote-seconds, wrote-minutes}
-use borrow.Author.Rules.{rules}
 use Rattle.commands.proofs.put_duration.Goals as goal
 
 pub returns-then-seconds-le255 : goal.returns-then-seconds-le255

@@ -1,6 +1,5 @@
 -- `put_item` meets its contract. Assumes nothing.
 use Rattle.commands.proofs.Heads.{wrote-item}
-use borrow.Author.Rules.{rules}
 use Rattle.commands.proofs.put_item.Goals as goal
 
 pub returns : goal.returns

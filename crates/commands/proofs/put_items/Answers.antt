@@ -1,6 +1,5 @@
 -- `put_items` meets its contract. Assumes nothing.
 use Rattle.commands.proofs.Whole.{wrote-no-row, wrote-rows, room-no-row, room-rows}
-use borrow.Author.Rules.{rules}
 use Rattle.commands.proofs.put_items.Goals as goal
 
 pub put-requires : goal.put-requires

@@ -1,6 +1,5 @@
 -- `put_length` meets its contract. Assumes nothing.
 use Rattle.commands.proofs.Heads.{wrote-short, wrote-long}
-use borrow.Author.Rules.{rules}
 use Rattle.commands.proofs.put_length.Goals as goal
 
 pub returns-then-n-lt128 : goal.returns-then-n-lt128

@@ -1,11 +1,9 @@
 -- `put_rows` meets its contract. Assumes nothing.
-use Prim.Native.Nat.{◌≤◌, ◌-◌, ◌+◌}
-use mathlib.Core.Path.{◌≡◌, sym, ap, ◌∙◌}
-use mathlib.Core.Logic.{⊎_elim}
+use Prim.Native.Nat.{◌+◌}
+use mathlib.Core.Path.{sym, ap, ◌∙◌}
 use native.Mathlib.Omega.{arith}
-use lib.ListN.{length, take}
+use lib.ListN.{length}
 use Rattle.lists.specs.Lists.{gather, keep}
-use Rattle.lists.specs.Wrote.{Wrote}
 use Rattle.lists.proofs.Writing.{wrote_none, Wrote-then}
 use Rattle.rules.specs.Held.{view_rows}
 use Rattle.menu.proofs.Tidy.{long}
@@ -51,9 +49,10 @@ loop-i-preserved c =
     let v = c.loop-i.invariant.2 in
     let is = sym c.is_shown-is.ensures in
     let k = rows-part (is_shown c.args.selectable) (view_rows c.args.rows) c.loop-i.i in
-    elim c.if-is.branch
-    [ then-is w ↦ (search rules, ap length w.buf-is ∙ w.put_item-next.auto.buf ∙ c.loop-i.invariant.1, rw (w.buf-is, w.next-is, rows_next c.args.rows t c.args.selectable c.loop-i.i (search rules) (is ∙ w.if-is.true)) (Wrote-then v w.put_item-next.ensures (omega (arith, c.requires.1))))
-    | else-is w ↦ (search rules, ap length w.buf-is ∙ c.loop-i.invariant.1, rw (w.buf-is, w.next-is, rows_same c.args.rows t c.args.selectable c.loop-i.i (search rules) (is ∙ w.if-is.false)) v) ]
+    elim c.if-is.branch [
+      | then-is w ↦ (search rules, ap length w.buf-is ∙ w.put_item-next.auto.buf ∙ c.loop-i.invariant.1, rw (w.buf-is, w.next-is, rows_next c.args.rows t c.args.selectable c.loop-i.i (search rules) (is ∙ w.if-is.true)) (Wrote-then v w.put_item-next.ensures (omega (arith, c.requires.1))))
+      | else-is w ↦ (search rules, ap length w.buf-is ∙ c.loop-i.invariant.1, rw (w.buf-is, w.next-is, rows_same c.args.rows t c.args.selectable c.loop-i.i (search rules) (is ∙ w.if-is.false)) v)
+    ]
 
 pub returns : goal.returns
 returns c = rw (rows_whole c.args.rows c.requires.0 c.args.selectable c.loop-i.i (search rules)) at c.loop-i.invariant.2

@@ -1,7 +1,6 @@
 -- `value_length` meets its contract. Assumes nothing.
 use native.Mathlib.Omega.{arith}
 use borrow.Author.Tests.{ne_eqb}
-use borrow.Author.Rules.{rules}
 use Rattle.commands.proofs.value_length.Goals as goal
 
 pub returns-then-bytes-eq0 : goal.returns-then-bytes-eq0

@@ -1,7 +1,6 @@
 -- `write_interval` meets its contract.
 -- Assumes nothing.
 use Rattle.commands.proofs.Whole.{wrote-interval}
-use borrow.Author.Rules.{rules}
 use Rattle.commands.proofs.write_interval.Goals as goal
 
 pub returns : goal.returns

@@ -3,7 +3,6 @@ use mathlib.Core.Path.{refl}
 use native.Mathlib.Omega.{arith}
 use Rattle.commands.proofs.Lines.{rows_under}
 use Rattle.commands.proofs.Whole.{value-under, wrote-menu, room-head, room-third, room-items}
-use borrow.Author.Rules.{rules}
 use Rattle.commands.proofs.write_menu.Goals as goal
 
 pub value_length-n-requires : goal.value_length-n-requires

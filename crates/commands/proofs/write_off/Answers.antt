@@ -1,6 +1,5 @@
 -- `write_off` meets its contract.
 -- Assumes nothing.
-use borrow.Author.Rules.{rules}
 use Rattle.commands.proofs.Whole.{wrote-off}
 use Rattle.commands.proofs.write_off.Goals as goal
 

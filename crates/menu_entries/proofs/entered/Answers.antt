@@ -1,11 +1,10 @@
 -- `menu_entries::entered` meets its contract. The invariants: the bits set are those of the first i rows; the rows from i on stand one
 -- place further down.
 -- Assumes nothing.
-use Prim.Native.Nat.{ℕ, ◌+◌, ◌-◌, ◌^◌, ◌≤◌}
+use Prim.Native.Nat.{ℕ, ◌+◌, ◌-◌, ◌^◌}
 use native.Mathlib.Omega.{arith}
 use mathlib.Core.Path.{◌≡◌, ap, subst, ◌∙◌}
 use mathlib.Core.List.{map}
-use mathlib.Core.Logic.{⊎_elim}
 use lib.Count.{count_trailing_zeros}
 use Rattle.lists.proofs.Padded.{Open, open_more}
 use Rattle.lists.proofs.Mapped.{map-length}
@@ -53,19 +52,21 @@ loop-i-then-n-lt-MOST-preserved c =
 
 pub returns-after-loop-i-then-n-lt-MOST : goal.returns-after-loop-i-then-n-lt-MOST
 returns-after-loop-i-then-n-lt-MOST c =
-    let given : c.if-identifier-eq0.identifier ≡ identifier_for c.args.pair.identifier (view_rows c.args.rows) = elim c.if-identifier-eq0.branch
-    [ then-identifier-eq0+else-loop-i-test w ↦ free-for _ w.if-identifier-eq0.true (w.identifier-is ∙ (
-            let n : w.loop-i.i ≡ c.args.rows.count = omega (arith, w.loop-i.invariant.0, w.loop-i-test.false) in
-            free-is c.args.rows c.requires (w.loop-i.invariant.1 ∙ ap (λ (k : ℕ). used_to k c.args.rows.at) n)))
-    | else-identifier-eq0 w ↦ own-for _ w.if-identifier-eq0.false w.identifier-is ] in
+    let given : c.if-identifier-eq0.identifier ≡ identifier_for c.args.pair.identifier (view_rows c.args.rows) = elim c.if-identifier-eq0.branch [
+      | then-identifier-eq0+else-loop-i-test w ↦ free-for _ w.if-identifier-eq0.true (w.identifier-is ∙ (
+          let n : w.loop-i.i ≡ c.args.rows.count = omega (arith, w.loop-i.invariant.0, w.loop-i-test.false) in
+          free-is c.args.rows c.requires (w.loop-i.invariant.1 ∙ ap (λ (k : ℕ). used_to k c.args.rows.at) n)))
+      | else-identifier-eq0 w ↦ own-for _ w.if-identifier-eq0.false w.identifier-is
+    ] in
     let i : c.loop-i-then-n-lt-MOST.i ≡ c.place_of-k.result = omega arith in
     entered-room c.args.rows c.requires c.args.pair c.args.owner c.args.help c.args.text.now given _ _ (search rules) c.row_of-row.ensures c.place_of-k.ensures (subst (λ (k : ℕ). Open 12 blank (map stored_row (view_rows c.args.rows)) k c.loop-i-then-n-lt-MOST.at) i c.loop-i-then-n-lt-MOST.invariant.2)
 
 pub returns-else-n-lt-MOST : goal.returns-else-n-lt-MOST
 returns-else-n-lt-MOST c =
-    let given : c.if-identifier-eq0.identifier ≡ identifier_for c.args.pair.identifier (view_rows c.args.rows) = elim c.if-identifier-eq0.branch
-    [ then-identifier-eq0+else-loop-i-test w ↦ free-for _ w.if-identifier-eq0.true (w.identifier-is ∙ (
-            let n : w.loop-i.i ≡ c.args.rows.count = omega (arith, w.loop-i.invariant.0, w.loop-i-test.false) in
-            free-is c.args.rows c.requires (w.loop-i.invariant.1 ∙ ap (λ (k : ℕ). used_to k c.args.rows.at) n)))
-    | else-identifier-eq0 w ↦ own-for _ w.if-identifier-eq0.false w.identifier-is ] in
+    let given : c.if-identifier-eq0.identifier ≡ identifier_for c.args.pair.identifier (view_rows c.args.rows) = elim c.if-identifier-eq0.branch [
+      | then-identifier-eq0+else-loop-i-test w ↦ free-for _ w.if-identifier-eq0.true (w.identifier-is ∙ (
+          let n : w.loop-i.i ≡ c.args.rows.count = omega (arith, w.loop-i.invariant.0, w.loop-i-test.false) in
+          free-is c.args.rows c.requires (w.loop-i.invariant.1 ∙ ap (λ (k : ℕ). used_to k c.args.rows.at) n)))
+      | else-identifier-eq0 w ↦ own-for _ w.if-identifier-eq0.false w.identifier-is
+    ] in
     entered-full c.args.rows c.requires c.args.pair c.args.owner c.args.help c.args.text.now given (search rules)

@@ -2,7 +2,6 @@
 -- Assumes nothing.
 use mathlib.Core.Path.{refl}
 use Rattle.rules.specs.Held.{stored_row}
-use borrow.Author.Rules.{rules}
 use Rattle.menu_entries.proofs.row_of.Goals as goal
 
 pub returns : goal.returns

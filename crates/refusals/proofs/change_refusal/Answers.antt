@@ -3,7 +3,6 @@
 use mathlib.Core.Path.{refl}
 use mathlib.Core.Bool.{not}
 use Rattle.refusals.proofs.Lines.{text-last}
-use borrow.Author.Rules.{rules}
 use Rattle.refusals.proofs.change_refusal.Goals as goal
 
 pub returns : goal.returns

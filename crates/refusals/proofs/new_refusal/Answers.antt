@@ -4,7 +4,6 @@ use mathlib.Core.Path.{refl}
 use mathlib.Core.Bool.{not}
 use Rattle.lists.specs.Tests.{◌≤?◌}
 use Rattle.refusals.proofs.Lines.{text-last}
-use borrow.Author.Rules.{rules}
 use Rattle.refusals.proofs.new_refusal.Goals as goal
 
 pub returns : goal.returns

@@ -2,7 +2,6 @@
 -- Assumes nothing.
 use mathlib.Core.Path.{refl}
 use Rattle.rules.specs.Refusals.{first_holding}
-use borrow.Author.Rules.{rules}
 use Rattle.refusals.proofs.refusal_for.Goals as goal
 
 pub returns-then-there : goal.returns-then-there

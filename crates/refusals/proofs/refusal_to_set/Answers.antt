@@ -7,7 +7,6 @@ use Rattle.std.specs.Prelude.{◌==◌}
 use Rattle.rules.specs.declared.Kind.{Kind}
 use Rattle.rules.specs.Events.{is_control}
 use Rattle.refusals.proofs.Lines.{refused-before, refused-last}
-use borrow.Author.Rules.{rules}
 use Rattle.refusals.proofs.refusal_to_set.Goals as goal
 
 abbrev taken : Kind → (control number : ℕ) → Bool

@@ -1,0 +1,32 @@
+-- `delete` meets its contract.
+-- Assumes nothing.
+use mathlib.Core.Path.{sym, ◌∙◌}
+use mathlib.Core.Logic.{⊎_elim}
+use Rattle.card.proofs.Left.{tidy-rows}
+use Rattle.card.proofs.Order.{count_small}
+use Rattle.card.proofs.Present.{low-is, high_is}
+use Rattle.card.proofs.Deleted.{removes, deletes, deletes-none}
+use borrow.Author.Rules.{rules}
+use Rattle.card.proofs.Card.delete.Goals as goal
+use Rattle.card.proofs.Card.delete.Goals.{then-there, else-there}
+
+pub menu_turns-menu-requires : goal.menu_turns-menu-requires
+menu_turns-menu-requires c = tidy-rows _ c.requires
+
+pub roll_without-next_roll-requires : goal.roll_without-next_roll-requires
+roll_without-next_roll-requires c =
+    let there = sym c.has-there.ensures ∙ c.if-there.true in
+    (low-is c.args.self c.requires c.args.applet there, high_is c.args.self c.requires c.args.applet there, count_small _ c.requires)
+
+pub without-next_rows-requires : goal.without-next_rows-requires
+without-next_rows-requires c = tidy-rows _ c.requires
+
+pub returns : goal.returns
+returns c =
+    elim c.if-there.branch
+    [ then-there w ↦ deletes c.args.self c.requires c.args.applet c.has-there.ensures c.absent_refusal.ensures w.if-there.true
+    (w.left-then-there-3-1
+    ∙ removes c.args.self c.requires c.args.applet (sym c.has-there.ensures ∙ w.if-there.true)
+    w.switched-is.ensures w.menu_turns-menu.ensures w.codes_turn-events.ensures w.due_switched-polling.ensures w.due_after-menu_due.ensures w.due_after-events_due.ensures w.roll_without-arg-1.ensures w.roll_without-next_roll.ensures w.unregistered-next_registered.ensures w.made_with-next_made.ensures w.owner_without.ensures w.switched-waiting.ensures w.poll_with-next_polls.ensures w.without-next_rows.ensures)
+    c.of_refusal-answer.ensures
+    | else-there w ↦ deletes-none c.args.self c.requires c.args.applet c.has-there.ensures c.absent_refusal.ensures w.if-there.false w.left-is c.of_refusal-answer.ensures ]

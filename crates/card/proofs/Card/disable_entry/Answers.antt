@@ -1,0 +1,15 @@
+-- `disable_entry` meets its contract.
+-- Assumes nothing.
+use mathlib.Core.Bool.{false}
+use Rattle.card.proofs.Left.{tidy-rows}
+use Rattle.card.proofs.EntryRows.{turns-entry}
+use borrow.Author.Rules.{rules}
+use Rattle.card.proofs.Card.disable_entry.Goals as goal
+
+pub enabled-touched-requires : goal.enabled-touched-requires
+enabled-touched-requires c = tidy-rows _ c.requires
+
+pub returns : goal.returns
+returns c =
+    turns-entry c.args.self c.requires c.args.applet c.args.identifier false
+    c.has-there.ensures c.has-shown.ensures c.enabled-touched.ensures c.due_after-due.ensures c.row_refusal-refusal.ensures c.of_refusal-answer.ensures

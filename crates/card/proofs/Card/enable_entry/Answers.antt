@@ -1,0 +1,15 @@
+-- `enable_entry` meets its contract.
+-- Assumes nothing.
+use mathlib.Core.Bool.{true}
+use Rattle.card.proofs.Left.{tidy-rows}
+use Rattle.card.proofs.EntryRows.{turns-entry}
+use borrow.Author.Rules.{rules}
+use Rattle.card.proofs.Card.enable_entry.Goals as goal
+
+pub enabled-touched-requires : goal.enabled-touched-requires
+enabled-touched-requires c = tidy-rows _ c.requires
+
+pub returns : goal.returns
+returns c =
+    turns-entry c.args.self c.requires c.args.applet c.args.identifier true
+    c.has-there.ensures c.has-shown.ensures c.enabled-touched.ensures c.due_after-due.ensures c.row_refusal-refusal.ensures c.of_refusal-answer.ensures

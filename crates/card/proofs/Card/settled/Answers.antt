@@ -1,0 +1,8 @@
+-- `settled`: refused where a command is outstanding or a round open, else a round is opened.
+-- Assumes nothing.
+use Rattle.card.proofs.Arrival.{settles}
+use borrow.Author.Rules.{rules}
+use Rattle.card.proofs.Card.settled.Goals as goal
+
+pub returns : goal.returns
+returns c = settles _ c.requires c.settled_refusal-refusal.ensures c.event_at-arrived.ensures c.opened-opened.ensures c.other_marks-marks.ensures c.answered-answer.ensures

@@ -1,0 +1,8 @@
+-- `status`: a round is opened for those who request polling.
+-- Assumes nothing.
+use Rattle.card.proofs.Arrival.{wakes}
+use borrow.Author.Rules.{rules}
+use Rattle.card.proofs.Card.status.Goals as goal
+
+pub returns : goal.returns
+returns c = wakes _ c.requires c.polling_set-whom.ensures c.opened-opened.ensures c.other_marks-marks.ensures c.answered-answer.ensures
