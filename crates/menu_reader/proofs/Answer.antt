@@ -12,7 +12,6 @@ use Rattle.lists.specs.Tests.{◌≤?◌}
 use Rattle.std.specs.Prelude.{◌==◌}
 use Rattle.lists.specs.Lists.{every?, repeats?, empty?, gather, padded}
 use Rattle.lists.proofs.Decided.{both}
-use Rattle.rules.specs.declared.Item as held-item
 use Rattle.rules.specs.declared.Menu as held-menu
 use Rattle.rules.specs.Holds.{document}
 use Rattle.rules.specs.Bytes.{byte}

@@ -2,12 +2,8 @@
 use mathlib.Core.Path.{refl}
 use Rattle.lists.specs.Lists.{padded}
 use Rattle.rules.specs.Held.{stored_item}
-use Rattle.menu_reader.proofs.no_item.Statement.{statement}
-use Rattle.menu_reader.proofs.no_item.Tie as tie
+use Rattle.menu_reader.proofs.no_item.Goals as goal
 
-returns : tie.Need-returns
+pub returns : goal.returns
 unfolding stored_item padded
 returns c = refl
-
-pub no-item-spec : {M : Type 1} → statement M
-no-item-spec = tie.close (tie.spec returns)
