@@ -12,6 +12,7 @@ RENAMED_BY_PORT = {"getD": "get_or", "indexOf": "index_of"}
 # Names that would fall together with a definition in snake case: the folder, the name, the name from now on.
 APART = [
     ("crates/applets/proofs", r"\bby_number\b", "by_number_lem"),
+    ("crates/card/proofs/Back.antt", r"\bby_number\b", "by_number_lem"),
     ("crates/card/proofs/Turn.antt", r"(?<![.\w-])in_order\b", "call_order"),
     ("crates/history/proofs/Calling.antt", r"(?<=^  )in_order(?= [:\[(])|(?<=\()in_order(?= [hl] )", "in_order_lem"),
     ("crates/history/proofs", r"(?<![.\w-])is_open\b", "is_open_lem"),

@@ -21,7 +21,7 @@ use Rattle.rules.proofs.Held.{rows_back, desk-back}
 use Rattle.runs.specs.Sound.{SoundApplet, SoundRound, Sound}
 use Rattle.runs.proofs.Looked.{each-found}
 use Rattle.applets.specs.ByNumber.{at, grant_of, applet_by, roll_of, selectable_set, registered_set, made_table, poll_table}
-use Rattle.applets.proofs.Numbers.{by_number}
+use Rattle.applets.proofs.Numbers.{by_number_lem}
 use Rattle.arrivals.proofs.Waiting.{round-back}
 use Rattle.card.specs.View.{stored, applet_of, view}
 
@@ -39,7 +39,7 @@ module _ (m : Model) (b : Bounds) (n : ℕ) (low : 1 ≤ n) (high : n ≤ 8) whe
   x = at l n
 
   grant-back : get_or (table 8 (λ i. grant_of (at l (suc i)))) (n - 1) (grant_of nobody) ≡ grant_of x
-  grant-back = by_number l grant_of (grant_of nobody) n low high
+  grant-back = by_number_lem l grant_of (grant_of nobody) n low high
 
   events-by : (e : ℕ) → e < 20 → has? (get_or (table 20 (registered_set l)) e 0) n ≡ get_or x.events e false
   unfolding registered_set
@@ -55,7 +55,7 @@ module _ (m : Model) (b : Bounds) (n : ℕ) (low : 1 ≤ n) (high : n ≤ 8) whe
   own : SoundApplet b x → x.number ≡ n → applet_of (stored m) n ≡ x
   unfolding applet_of stored roll_of selectable_set made_table poll_table
   own s is =
-      rw (grant-back, by_number l (λ (y : Applet). y.made) 0 n low high, by_number l (λ (y : Applet). y.poll) 0 n low high, has-set (λ (k : ℕ). (at l k).selectable) n low high, events-back s.events) (by_itself x is)
+      rw (grant-back, by_number_lem l (λ (y : Applet). y.made) 0 n low high, by_number_lem l (λ (y : Applet). y.poll) 0 n low high, has-set (λ (k : ℕ). (at l k).selectable) n low high, events-back s.events) (by_itself x is)
 
 module _ (m : Model) (sound : Sound m) (e : m.tables.bounds ≡ document) where
   abbrev t : Tables
