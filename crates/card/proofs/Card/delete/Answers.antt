@@ -25,8 +25,10 @@ pub returns : goal.returns
 returns c =
     elim c.if-there.branch
     [ then-there w ↦ deletes c.args.self c.requires c.args.applet c.has-there.ensures c.absent_refusal.ensures w.if-there.true
-    (w.left-then-there-3-1
+    (w.left-is
     ∙ removes c.args.self c.requires c.args.applet (sym c.has-there.ensures ∙ w.if-there.true)
-    w.switched-is.ensures w.menu_turns-menu.ensures w.codes_turn-events.ensures w.due_switched-polling.ensures w.due_after-menu_due.ensures w.due_after-events_due.ensures w.roll_without-arg-1.ensures w.roll_without-next_roll.ensures w.unregistered-next_registered.ensures w.made_with-next_made.ensures w.owner_without.ensures w.switched-waiting.ensures w.poll_with-next_polls.ensures w.without-next_rows.ensures)
+    w.switched-is.ensures w.menu_turns-menu.ensures w.codes_turn-events.ensures w.due_switched-polling.ensures w.due_after-menu_due.ensures w.due_after-events_due.ensures
+    w.roll_without-next_roll.ensures w.unregistered-next_registered.ensures w.made_with-next_made.ensures w.poll_with-next_polls.ensures w.freed-left.ensures w.owner_without.ensures
+    w.without-next_rows.ensures w.switched-waiting.ensures)
     c.of_refusal-answer.ensures
     | else-there w ↦ deletes-none c.args.self c.requires c.args.applet c.has-there.ensures c.absent_refusal.ensures w.if-there.false w.left-is c.of_refusal-answer.ensures ]
