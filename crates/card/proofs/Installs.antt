@@ -24,7 +24,7 @@ use Rattle.rules.specs.declared.Roll.{Roll}
 use Rattle.rules.specs.Holds.{Applet, Row, Bounds, Tables, Model}
 use Rattle.rules.specs.Held.{stored_answer}
 use Rattle.rules.specs.Applets.{has_number, nobody, present, applet, newcomer}
-use Rattle.rules.specs.Calls.{Call, admin, install, accepted, refused_with}
+use Rattle.rules.specs.Calls.{Call, admin, install, refused_with}
 use Rattle.rules.specs.Desk.{marked}
 use Rattle.rules.specs.Refusals.{lines, refusal}
 use Rattle.rules.specs.Step.{step, tables_after, admin_tables, desk_after, answer, round_after, admin_round}

@@ -16,7 +16,7 @@ use Rattle.rules.specs.declared.Grant.{Grant}
 use Rattle.rules.specs.declared.Pair.{Pair}
 use Rattle.rules.specs.Holds.{Applet, Row, Bounds, Tables, with_one_more}
 use Rattle.rules.specs.Held.{view_rows, stored_rows, stored_answer}
-use Rattle.rules.specs.Applets.{nobody, present, applet, entries}
+use Rattle.rules.specs.Applets.{nobody, present, applet}
 use Rattle.rules.specs.Rows.{no_pair, next_pair, next_identifier, with_entry}
 use Rattle.rules.specs.Calls.{entry, new_entry, refused_with, numbered}
 use Rattle.rules.specs.Refusals.{line, first_holding, refusal}

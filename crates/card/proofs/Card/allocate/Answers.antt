@@ -1,7 +1,6 @@
 -- `allocate` meets its contract.
 -- Assumes nothing.
 use Rattle.card.proofs.Timers.{allocates}
-use borrow.Author.Rules.{rules}
 use Rattle.card.proofs.Card.allocate.Goals as goal
 
 pub returns : goal.returns

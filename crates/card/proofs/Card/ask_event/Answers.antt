@@ -2,7 +2,6 @@
 -- Assumes nothing.
 use Rattle.card.proofs.Asking.{asks-event}
 use Rattle.events.proofs.Places.{kind-of-value, place-within}
-use borrow.Author.Rules.{rules}
 use Rattle.card.proofs.Card.ask_event.Goals as goal
 
 pub bounds-registered-p : goal.bounds-registered-p

@@ -2,7 +2,6 @@
 -- Assumes nothing.
 use Rattle.card.proofs.Left.{tidy-rows}
 use Rattle.card.proofs.EntryRows.{changes-words}
-use borrow.Author.Rules.{rules}
 use Rattle.card.proofs.Card.change_entry.Goals as goal
 
 pub changed-worded-requires : goal.changed-worded-requires

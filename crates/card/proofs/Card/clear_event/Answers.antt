@@ -3,7 +3,6 @@
 use mathlib.Core.Bool.{false}
 use Rattle.events.proofs.Places.{kind-of-value, place-within}
 use Rattle.card.proofs.Events.{turns-event}
-use borrow.Author.Rules.{rules}
 use Rattle.card.proofs.Card.clear_event.Goals as goal
 
 pub bounds-registered-p : goal.bounds-registered-p

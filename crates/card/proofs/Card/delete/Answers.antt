@@ -1,12 +1,10 @@
 -- `delete` meets its contract.
 -- Assumes nothing.
 use mathlib.Core.Path.{sym, ◌∙◌}
-use mathlib.Core.Logic.{⊎_elim}
 use Rattle.card.proofs.Left.{tidy-rows}
 use Rattle.card.proofs.Order.{count_small}
 use Rattle.card.proofs.Present.{low-is, high_is}
 use Rattle.card.proofs.Deleted.{removes, deletes, deletes-none}
-use borrow.Author.Rules.{rules}
 use Rattle.card.proofs.Card.delete.Goals as goal
 use Rattle.card.proofs.Card.delete.Goals.{then-there, else-there}
 
@@ -23,12 +21,13 @@ without-next_rows-requires c = tidy-rows _ c.requires
 
 pub returns : goal.returns
 returns c =
-    elim c.if-there.branch
-    [ then-there w ↦ deletes c.args.self c.requires c.args.applet c.has-there.ensures c.absent_refusal.ensures w.if-there.true
-    (w.left-is
-    ∙ removes c.args.self c.requires c.args.applet (sym c.has-there.ensures ∙ w.if-there.true)
-    w.switched-is.ensures w.menu_turns-menu.ensures w.codes_turn-events.ensures w.due_switched-polling.ensures w.due_after-menu_due.ensures w.due_after-events_due.ensures
-    w.roll_without-next_roll.ensures w.unregistered-next_registered.ensures w.made_with-next_made.ensures w.poll_with-next_polls.ensures w.freed-left.ensures w.owner_without.ensures
-    w.without-next_rows.ensures w.switched-waiting.ensures)
-    c.of_refusal-answer.ensures
-    | else-there w ↦ deletes-none c.args.self c.requires c.args.applet c.has-there.ensures c.absent_refusal.ensures w.if-there.false w.left-is c.of_refusal-answer.ensures ]
+    elim c.if-there.branch [
+      | then-there w ↦ deletes c.args.self c.requires c.args.applet c.has-there.ensures c.absent_refusal.ensures w.if-there.true
+          (w.left-is
+          ∙ removes c.args.self c.requires c.args.applet (sym c.has-there.ensures ∙ w.if-there.true)
+          w.switched-is.ensures w.menu_turns-menu.ensures w.codes_turn-events.ensures w.due_switched-polling.ensures w.due_after-menu_due.ensures w.due_after-events_due.ensures
+          w.roll_without-next_roll.ensures w.unregistered-next_registered.ensures w.made_with-next_made.ensures w.poll_with-next_polls.ensures w.freed-left.ensures w.owner_without.ensures
+          w.without-next_rows.ensures w.switched-waiting.ensures)
+          c.of_refusal-answer.ensures
+      | else-there w ↦ deletes-none c.args.self c.requires c.args.applet c.has-there.ensures c.absent_refusal.ensures w.if-there.false w.left-is c.of_refusal-answer.ensures
+    ]

@@ -3,7 +3,6 @@
 use mathlib.Core.Bool.{false}
 use Rattle.card.proofs.Left.{tidy-rows}
 use Rattle.card.proofs.EntryRows.{turns-entry}
-use borrow.Author.Rules.{rules}
 use Rattle.card.proofs.Card.disable_entry.Goals as goal
 
 pub enabled-touched-requires : goal.enabled-touched-requires

@@ -2,7 +2,6 @@
 -- Assumes nothing.
 use Rattle.card.proofs.Left.{tidy-rows}
 use Rattle.card.proofs.Arrival.{comes}
-use borrow.Author.Rules.{rules}
 use Rattle.card.proofs.Card.envelope.Goals as goal
 
 pub envelope_whom-whom-requires : goal.envelope_whom-whom-requires

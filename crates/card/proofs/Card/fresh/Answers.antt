@@ -1,7 +1,6 @@
 -- `fresh` meets its contract.
 -- Assumes nothing.
 use Rattle.card.proofs.FreshCard.{kept-long, kept-short, freshens}
-use borrow.Author.Rules.{rules}
 use Rattle.card.proofs.Card.fresh.Goals as goal
 
 pub slice_bounds-made-end : goal.slice_bounds-made-end

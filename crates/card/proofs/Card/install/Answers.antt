@@ -1,9 +1,7 @@
 -- `card::Card::install` meets its contract. By what its parts say, accepted and refused.
 -- Assumes nothing.
-use mathlib.Core.Logic.{⊎_elim}
 use Rattle.card.proofs.Order.{order-form, order-eight}
 use Rattle.card.proofs.Installs.{from_one, to-eight, count_room, accepts, with-newcomer, as_it_was, install-replies}
-use borrow.Author.Rules.{rules}
 use Rattle.card.proofs.Card.install.Goals as goal
 use Rattle.card.proofs.Card.install.Goals.{then-refusal-eq0, else-refusal-eq0}
 
@@ -24,7 +22,8 @@ returns c =
     let q = c.args.request in
     let e = c.install_refusal-refusal.ensures in
     install-replies k l n q e
-    (elim c.if-refusal-eq0.branch
-    [ then-refusal-eq0 w ↦ with-newcomer k l n q e w.if-refusal-eq0.true (w.granted-grant.ensures n) w.roll_with-next.ensures w.switched-selectable.ensures w.left-is
-    | else-refusal-eq0 w ↦ as_it_was k l n q e w.if-refusal-eq0.false w.left-is ])
+    (elim c.if-refusal-eq0.branch [
+      | then-refusal-eq0 w ↦ with-newcomer k l n q e w.if-refusal-eq0.true (w.granted-grant.ensures n) w.roll_with-next.ensures w.switched-selectable.ensures w.left-is
+      | else-refusal-eq0 w ↦ as_it_was k l n q e w.if-refusal-eq0.false w.left-is
+    ])
     c.of_refusal-answer.ensures

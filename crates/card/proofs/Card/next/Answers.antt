@@ -3,7 +3,6 @@
 use Rattle.card.proofs.Left.{tidy-rows}
 use Rattle.card.proofs.Order.{count_small}
 use Rattle.card.proofs.AfterTurn.{takes-turn}
-use borrow.Author.Rules.{rules}
 use Rattle.card.proofs.Card.next.Goals as goal
 
 pub whom-still-requires : goal.whom-still-requires

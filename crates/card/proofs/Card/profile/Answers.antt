@@ -2,7 +2,6 @@
 -- Assumes nothing.
 use Rattle.card.proofs.Left.{tidy-rows}
 use Rattle.card.proofs.Profile.{begins-session, refuses-profile}
-use borrow.Author.Rules.{rules}
 use Rattle.card.proofs.Card.profile.Goals as goal
 
 pub has_shown_row-menu-requires : goal.has_shown_row-menu-requires

@@ -1,7 +1,6 @@
 -- `release` meets its contract.
 -- Assumes nothing.
 use Rattle.card.proofs.Timers.{releases}
-use borrow.Author.Rules.{rules}
 use Rattle.card.proofs.Card.release.Goals as goal
 
 pub returns : goal.returns

@@ -1,7 +1,6 @@
 -- `response` meets its contract.
 -- Assumes nothing.
 use Rattle.card.proofs.Sends.{responds}
-use borrow.Author.Rules.{rules}
 use Rattle.card.proofs.Card.response.Goals as goal
 
 pub returns : goal.returns

@@ -1,7 +1,6 @@
 -- `send` meets its contract.
 -- Assumes nothing.
 use Rattle.card.proofs.Sends.{sends}
-use borrow.Author.Rules.{rules}
 use Rattle.card.proofs.Card.send.Goals as goal
 
 pub returns : goal.returns

@@ -1,7 +1,6 @@
 -- `settled`: refused where a command is outstanding or a round open, else a round is opened.
 -- Assumes nothing.
 use Rattle.card.proofs.Arrival.{settles}
-use borrow.Author.Rules.{rules}
 use Rattle.card.proofs.Card.settled.Goals as goal
 
 pub returns : goal.returns

@@ -1,7 +1,6 @@
 -- `status`: a round is opened for those who request polling.
 -- Assumes nothing.
 use Rattle.card.proofs.Arrival.{wakes}
-use borrow.Author.Rules.{rules}
 use Rattle.card.proofs.Card.status.Goals as goal
 
 pub returns : goal.returns

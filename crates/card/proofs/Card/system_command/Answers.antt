@@ -1,20 +1,14 @@
 -- `system_command` meets its contract.
 -- Assumes nothing.
-use Prim.Native.Nat.{ℕ, ◌≤◌}
 use native.Mathlib.Omega.{arith}
-use mathlib.Core.Path.{◌≡◌, refl}
-use mathlib.Core.Bool.{Bool, true, false}
-use mathlib.Core.Logic.{⊎_elim}
-use mathlib.Core.List.{List}
+use mathlib.Core.Path.{refl}
 use lib.ListN.{length}
 use Rattle.rules.specs.declared.Due.{Due}
-use Rattle.rules.specs.Holds.{nothing_due}
 use Rattle.rules.specs.Commands.{off_bytes}
 use Rattle.std.specs.Prelude.{◌==◌}
 use Rattle.card.proofs.Handed.{menu_now, events_now, interval_now, rows_fit, title-short, handed-room, hands_out}
 use Rattle.card.proofs.Polled.{interval-few}
 use Rattle.card.proofs.Written.{Handed, by_menu, by_events, by_interval, by_off, none_yet, off-wrote, then-yes, then-not, events-apart, interval-apart, off-apart}
-use borrow.Author.Rules.{rules}
 use Rattle.card.proofs.Card.system_command.Goals as goal
 use Rattle.card.proofs.Card.system_command.Goals.{then-first, else-first, then-first-2, else-first-2, then-first-3, else-first-3, then-first-4, else-first-4}
 
@@ -33,9 +27,10 @@ put_events-n-requires c =
     let events = events_now s c.requires in
     let interval = interval_now s c.requires in
     let menu-written : Handed given (by_menu f menu events interval off_bytes) c.if-first.buf c.if-first.n =
-        elim c.if-first.branch
-        [ then-first w ↦ then-yes (λ h. refl) menu (none_yet given) w.if-first.true w.buf-is w.n-is w.put_menu-n.ensures
-        | else-first w ↦ then-not (λ h. refl) menu (none_yet given) w.if-first.false w.buf-is w.n-is ] in
+    elim c.if-first.branch [
+      | then-first w ↦ then-yes (λ h. refl) menu (none_yet given) w.if-first.true w.buf-is w.n-is w.put_menu-n.ensures
+      | else-first w ↦ then-not (λ h. refl) menu (none_yet given) w.if-first.false w.buf-is w.n-is
+    ] in
     omega (arith, handed-room s.desk.outstanding (length given) s.desk.due (λ (d : Due). d.events) refl c.hand_refusal-refusal.ensures c.first_due-first.ensures c.if-first-2.true, menu-written.0.long)
 
 pub put_interval-n-requires : goal.put_interval-n-requires
@@ -47,14 +42,16 @@ put_interval-n-requires c =
     let events = events_now s c.requires in
     let interval = interval_now s c.requires in
     let menu-written : Handed given (by_menu f menu events interval off_bytes) c.if-first.buf c.if-first.n =
-        elim c.if-first.branch
-        [ then-first w ↦ then-yes (λ h. refl) menu (none_yet given) w.if-first.true w.buf-is w.n-is w.put_menu-n.ensures
-        | else-first w ↦ then-not (λ h. refl) menu (none_yet given) w.if-first.false w.buf-is w.n-is ] in
+    elim c.if-first.branch [
+      | then-first w ↦ then-yes (λ h. refl) menu (none_yet given) w.if-first.true w.buf-is w.n-is w.put_menu-n.ensures
+      | else-first w ↦ then-not (λ h. refl) menu (none_yet given) w.if-first.false w.buf-is w.n-is
+    ] in
     let events-written : Handed given (by_events f menu events interval off_bytes) c.if-first-2.buf c.if-first-2.n =
-        let apart = events-apart (c.hand_refusal-refusal.result == 0) s.desk.due c.first_due-first.ensures menu events interval off_bytes in
-        elim c.if-first-2.branch
-        [ then-first-2 w ↦ then-yes apart events menu-written w.if-first-2.true w.buf-is w.n-is w.put_events-n.ensures
-        | else-first-2 w ↦ then-not apart events menu-written w.if-first-2.false w.buf-is w.n-is ] in
+    let apart = events-apart (c.hand_refusal-refusal.result == 0) s.desk.due c.first_due-first.ensures menu events interval off_bytes in
+    elim c.if-first-2.branch [
+      | then-first-2 w ↦ then-yes apart events menu-written w.if-first-2.true w.buf-is w.n-is w.put_events-n.ensures
+      | else-first-2 w ↦ then-not apart events menu-written w.if-first-2.false w.buf-is w.n-is
+    ] in
     (interval-few _ c.requires, omega (arith, handed-room s.desk.outstanding (length given) s.desk.due (λ (d : Due). d.interval) refl c.hand_refusal-refusal.ensures c.first_due-first.ensures c.if-first-3.true, events-written.0.long))
 
 pub write_off-n-requires : goal.write_off-n-requires
@@ -66,19 +63,22 @@ write_off-n-requires c =
     let events = events_now s c.requires in
     let interval = interval_now s c.requires in
     let menu-written : Handed given (by_menu f menu events interval off_bytes) c.if-first.buf c.if-first.n =
-        elim c.if-first.branch
-        [ then-first w ↦ then-yes (λ h. refl) menu (none_yet given) w.if-first.true w.buf-is w.n-is w.put_menu-n.ensures
-        | else-first w ↦ then-not (λ h. refl) menu (none_yet given) w.if-first.false w.buf-is w.n-is ] in
+    elim c.if-first.branch [
+      | then-first w ↦ then-yes (λ h. refl) menu (none_yet given) w.if-first.true w.buf-is w.n-is w.put_menu-n.ensures
+      | else-first w ↦ then-not (λ h. refl) menu (none_yet given) w.if-first.false w.buf-is w.n-is
+    ] in
     let events-written : Handed given (by_events f menu events interval off_bytes) c.if-first-2.buf c.if-first-2.n =
-        let apart = events-apart (c.hand_refusal-refusal.result == 0) s.desk.due c.first_due-first.ensures menu events interval off_bytes in
-        elim c.if-first-2.branch
-        [ then-first-2 w ↦ then-yes apart events menu-written w.if-first-2.true w.buf-is w.n-is w.put_events-n.ensures
-        | else-first-2 w ↦ then-not apart events menu-written w.if-first-2.false w.buf-is w.n-is ] in
+    let apart = events-apart (c.hand_refusal-refusal.result == 0) s.desk.due c.first_due-first.ensures menu events interval off_bytes in
+    elim c.if-first-2.branch [
+      | then-first-2 w ↦ then-yes apart events menu-written w.if-first-2.true w.buf-is w.n-is w.put_events-n.ensures
+      | else-first-2 w ↦ then-not apart events menu-written w.if-first-2.false w.buf-is w.n-is
+    ] in
     let interval-written : Handed given (by_interval f menu events interval off_bytes) c.if-first-3.buf c.if-first-3.n =
-        let apart = interval-apart (c.hand_refusal-refusal.result == 0) s.desk.due c.first_due-first.ensures menu events interval off_bytes in
-        elim c.if-first-3.branch
-        [ then-first-3 w ↦ then-yes apart interval events-written w.if-first-3.true w.buf-is w.n-is w.put_interval-n.ensures
-        | else-first-3 w ↦ then-not apart interval events-written w.if-first-3.false w.buf-is w.n-is ] in
+    let apart = interval-apart (c.hand_refusal-refusal.result == 0) s.desk.due c.first_due-first.ensures menu events interval off_bytes in
+    elim c.if-first-3.branch [
+      | then-first-3 w ↦ then-yes apart interval events-written w.if-first-3.true w.buf-is w.n-is w.put_interval-n.ensures
+      | else-first-3 w ↦ then-not apart interval events-written w.if-first-3.false w.buf-is w.n-is
+    ] in
     omega (arith, handed-room s.desk.outstanding (length given) s.desk.due (λ (d : Due). d.off) refl c.hand_refusal-refusal.ensures c.first_due-first.ensures c.if-first-4.true, interval-written.0.long)
 
 pub overflow_cast-n : goal.overflow_cast-n
@@ -90,24 +90,28 @@ overflow_cast-n c =
     let events = events_now s c.requires in
     let interval = interval_now s c.requires in
     let menu-written : Handed given (by_menu f menu events interval off_bytes) c.if-first.buf c.if-first.n =
-        elim c.if-first.branch
-        [ then-first w ↦ then-yes (λ h. refl) menu (none_yet given) w.if-first.true w.buf-is w.n-is w.put_menu-n.ensures
-        | else-first w ↦ then-not (λ h. refl) menu (none_yet given) w.if-first.false w.buf-is w.n-is ] in
+    elim c.if-first.branch [
+      | then-first w ↦ then-yes (λ h. refl) menu (none_yet given) w.if-first.true w.buf-is w.n-is w.put_menu-n.ensures
+      | else-first w ↦ then-not (λ h. refl) menu (none_yet given) w.if-first.false w.buf-is w.n-is
+    ] in
     let events-written : Handed given (by_events f menu events interval off_bytes) c.if-first-2.buf c.if-first-2.n =
-        let apart = events-apart (c.hand_refusal-refusal.result == 0) s.desk.due c.first_due-first.ensures menu events interval off_bytes in
-        elim c.if-first-2.branch
-        [ then-first-2 w ↦ then-yes apart events menu-written w.if-first-2.true w.buf-is w.n-is w.put_events-n.ensures
-        | else-first-2 w ↦ then-not apart events menu-written w.if-first-2.false w.buf-is w.n-is ] in
+    let apart = events-apart (c.hand_refusal-refusal.result == 0) s.desk.due c.first_due-first.ensures menu events interval off_bytes in
+    elim c.if-first-2.branch [
+      | then-first-2 w ↦ then-yes apart events menu-written w.if-first-2.true w.buf-is w.n-is w.put_events-n.ensures
+      | else-first-2 w ↦ then-not apart events menu-written w.if-first-2.false w.buf-is w.n-is
+    ] in
     let interval-written : Handed given (by_interval f menu events interval off_bytes) c.if-first-3.buf c.if-first-3.n =
-        let apart = interval-apart (c.hand_refusal-refusal.result == 0) s.desk.due c.first_due-first.ensures menu events interval off_bytes in
-        elim c.if-first-3.branch
-        [ then-first-3 w ↦ then-yes apart interval events-written w.if-first-3.true w.buf-is w.n-is w.put_interval-n.ensures
-        | else-first-3 w ↦ then-not apart interval events-written w.if-first-3.false w.buf-is w.n-is ] in
+    let apart = interval-apart (c.hand_refusal-refusal.result == 0) s.desk.due c.first_due-first.ensures menu events interval off_bytes in
+    elim c.if-first-3.branch [
+      | then-first-3 w ↦ then-yes apart interval events-written w.if-first-3.true w.buf-is w.n-is w.put_interval-n.ensures
+      | else-first-3 w ↦ then-not apart interval events-written w.if-first-3.false w.buf-is w.n-is
+    ] in
     let due-written : Handed given (by_off f menu events interval off_bytes) c.if-first-4.buf c.if-first-4.n =
-        let apart = off-apart (c.hand_refusal-refusal.result == 0) s.desk.due c.first_due-first.ensures menu events interval off_bytes in
-        elim c.if-first-4.branch
-        [ then-first-4 w ↦ then-yes apart off_bytes interval-written w.if-first-4.true w.buf-is w.n-is (off-wrote w.write_off-n.ensures)
-        | else-first-4 w ↦ then-not apart off_bytes interval-written w.if-first-4.false w.buf-is w.n-is ] in
+    let apart = off-apart (c.hand_refusal-refusal.result == 0) s.desk.due c.first_due-first.ensures menu events interval off_bytes in
+    elim c.if-first-4.branch [
+      | then-first-4 w ↦ then-yes apart off_bytes interval-written w.if-first-4.true w.buf-is w.n-is (off-wrote w.write_off-n.ensures)
+      | else-first-4 w ↦ then-not apart off_bytes interval-written w.if-first-4.false w.buf-is w.n-is
+    ] in
     omega (arith, due-written.1)
 
 pub shape_of-buf : goal.shape_of-buf
@@ -119,24 +123,28 @@ shape_of-buf c =
     let events = events_now s c.requires in
     let interval = interval_now s c.requires in
     let menu-written : Handed given (by_menu f menu events interval off_bytes) c.if-first.buf c.if-first.n =
-        elim c.if-first.branch
-        [ then-first w ↦ then-yes (λ h. refl) menu (none_yet given) w.if-first.true w.buf-is w.n-is w.put_menu-n.ensures
-        | else-first w ↦ then-not (λ h. refl) menu (none_yet given) w.if-first.false w.buf-is w.n-is ] in
+    elim c.if-first.branch [
+      | then-first w ↦ then-yes (λ h. refl) menu (none_yet given) w.if-first.true w.buf-is w.n-is w.put_menu-n.ensures
+      | else-first w ↦ then-not (λ h. refl) menu (none_yet given) w.if-first.false w.buf-is w.n-is
+    ] in
     let events-written : Handed given (by_events f menu events interval off_bytes) c.if-first-2.buf c.if-first-2.n =
-        let apart = events-apart (c.hand_refusal-refusal.result == 0) s.desk.due c.first_due-first.ensures menu events interval off_bytes in
-        elim c.if-first-2.branch
-        [ then-first-2 w ↦ then-yes apart events menu-written w.if-first-2.true w.buf-is w.n-is w.put_events-n.ensures
-        | else-first-2 w ↦ then-not apart events menu-written w.if-first-2.false w.buf-is w.n-is ] in
+    let apart = events-apart (c.hand_refusal-refusal.result == 0) s.desk.due c.first_due-first.ensures menu events interval off_bytes in
+    elim c.if-first-2.branch [
+      | then-first-2 w ↦ then-yes apart events menu-written w.if-first-2.true w.buf-is w.n-is w.put_events-n.ensures
+      | else-first-2 w ↦ then-not apart events menu-written w.if-first-2.false w.buf-is w.n-is
+    ] in
     let interval-written : Handed given (by_interval f menu events interval off_bytes) c.if-first-3.buf c.if-first-3.n =
-        let apart = interval-apart (c.hand_refusal-refusal.result == 0) s.desk.due c.first_due-first.ensures menu events interval off_bytes in
-        elim c.if-first-3.branch
-        [ then-first-3 w ↦ then-yes apart interval events-written w.if-first-3.true w.buf-is w.n-is w.put_interval-n.ensures
-        | else-first-3 w ↦ then-not apart interval events-written w.if-first-3.false w.buf-is w.n-is ] in
+    let apart = interval-apart (c.hand_refusal-refusal.result == 0) s.desk.due c.first_due-first.ensures menu events interval off_bytes in
+    elim c.if-first-3.branch [
+      | then-first-3 w ↦ then-yes apart interval events-written w.if-first-3.true w.buf-is w.n-is w.put_interval-n.ensures
+      | else-first-3 w ↦ then-not apart interval events-written w.if-first-3.false w.buf-is w.n-is
+    ] in
     let due-written : Handed given (by_off f menu events interval off_bytes) c.if-first-4.buf c.if-first-4.n =
-        let apart = off-apart (c.hand_refusal-refusal.result == 0) s.desk.due c.first_due-first.ensures menu events interval off_bytes in
-        elim c.if-first-4.branch
-        [ then-first-4 w ↦ then-yes apart off_bytes interval-written w.if-first-4.true w.buf-is w.n-is (off-wrote w.write_off-n.ensures)
-        | else-first-4 w ↦ then-not apart off_bytes interval-written w.if-first-4.false w.buf-is w.n-is ] in
+    let apart = off-apart (c.hand_refusal-refusal.result == 0) s.desk.due c.first_due-first.ensures menu events interval off_bytes in
+    elim c.if-first-4.branch [
+      | then-first-4 w ↦ then-yes apart off_bytes interval-written w.if-first-4.true w.buf-is w.n-is (off-wrote w.write_off-n.ensures)
+      | else-first-4 w ↦ then-not apart off_bytes interval-written w.if-first-4.false w.buf-is w.n-is
+    ] in
     due-written.0.long
 
 pub returns : goal.returns
@@ -148,22 +156,26 @@ returns c =
     let events = events_now s c.requires in
     let interval = interval_now s c.requires in
     let menu-written : Handed given (by_menu f menu events interval off_bytes) c.if-first.buf c.if-first.n =
-        elim c.if-first.branch
-        [ then-first w ↦ then-yes (λ h. refl) menu (none_yet given) w.if-first.true w.buf-is w.n-is w.put_menu-n.ensures
-        | else-first w ↦ then-not (λ h. refl) menu (none_yet given) w.if-first.false w.buf-is w.n-is ] in
+    elim c.if-first.branch [
+      | then-first w ↦ then-yes (λ h. refl) menu (none_yet given) w.if-first.true w.buf-is w.n-is w.put_menu-n.ensures
+      | else-first w ↦ then-not (λ h. refl) menu (none_yet given) w.if-first.false w.buf-is w.n-is
+    ] in
     let events-written : Handed given (by_events f menu events interval off_bytes) c.if-first-2.buf c.if-first-2.n =
-        let apart = events-apart (c.hand_refusal-refusal.result == 0) s.desk.due c.first_due-first.ensures menu events interval off_bytes in
-        elim c.if-first-2.branch
-        [ then-first-2 w ↦ then-yes apart events menu-written w.if-first-2.true w.buf-is w.n-is w.put_events-n.ensures
-        | else-first-2 w ↦ then-not apart events menu-written w.if-first-2.false w.buf-is w.n-is ] in
+    let apart = events-apart (c.hand_refusal-refusal.result == 0) s.desk.due c.first_due-first.ensures menu events interval off_bytes in
+    elim c.if-first-2.branch [
+      | then-first-2 w ↦ then-yes apart events menu-written w.if-first-2.true w.buf-is w.n-is w.put_events-n.ensures
+      | else-first-2 w ↦ then-not apart events menu-written w.if-first-2.false w.buf-is w.n-is
+    ] in
     let interval-written : Handed given (by_interval f menu events interval off_bytes) c.if-first-3.buf c.if-first-3.n =
-        let apart = interval-apart (c.hand_refusal-refusal.result == 0) s.desk.due c.first_due-first.ensures menu events interval off_bytes in
-        elim c.if-first-3.branch
-        [ then-first-3 w ↦ then-yes apart interval events-written w.if-first-3.true w.buf-is w.n-is w.put_interval-n.ensures
-        | else-first-3 w ↦ then-not apart interval events-written w.if-first-3.false w.buf-is w.n-is ] in
+    let apart = interval-apart (c.hand_refusal-refusal.result == 0) s.desk.due c.first_due-first.ensures menu events interval off_bytes in
+    elim c.if-first-3.branch [
+      | then-first-3 w ↦ then-yes apart interval events-written w.if-first-3.true w.buf-is w.n-is w.put_interval-n.ensures
+      | else-first-3 w ↦ then-not apart interval events-written w.if-first-3.false w.buf-is w.n-is
+    ] in
     let due-written : Handed given (by_off f menu events interval off_bytes) c.if-first-4.buf c.if-first-4.n =
-        let apart = off-apart (c.hand_refusal-refusal.result == 0) s.desk.due c.first_due-first.ensures menu events interval off_bytes in
-        elim c.if-first-4.branch
-        [ then-first-4 w ↦ then-yes apart off_bytes interval-written w.if-first-4.true w.buf-is w.n-is (off-wrote w.write_off-n.ensures)
-        | else-first-4 w ↦ then-not apart off_bytes interval-written w.if-first-4.false w.buf-is w.n-is ] in
+    let apart = off-apart (c.hand_refusal-refusal.result == 0) s.desk.due c.first_due-first.ensures menu events interval off_bytes in
+    elim c.if-first-4.branch [
+      | then-first-4 w ↦ then-yes apart off_bytes interval-written w.if-first-4.true w.buf-is w.n-is (off-wrote w.write_off-n.ensures)
+      | else-first-4 w ↦ then-not apart off_bytes interval-written w.if-first-4.false w.buf-is w.n-is
+    ] in
     hands_out s c.requires given c.hand_refusal-refusal.ensures c.first_due-first.ensures c.rest_due-rest.ensures due-written c.of_number-answer.ensures

@@ -4,7 +4,6 @@ use mathlib.Core.Path.{ap, ◌∙◌}
 use lib.Seq.{take_all}
 use Rattle.lists.specs.Lists.{padded}
 use Rattle.card.proofs.FreshCard.{fresh-is}
-use borrow.Author.Rules.{rules}
 use Rattle.card.proofs.fresh.made.Goals as goal
 
 pub returns : goal.returns

@@ -1,7 +1,6 @@
 -- `put_events` meets its contract.
 -- Assumes nothing.
 use Rattle.card.proofs.Written.{codes-room, codes-count, codes-few, codes-wrote}
-use borrow.Author.Rules.{rules}
 use Rattle.card.proofs.handing.put_events.Goals as goal
 
 pub slice_bounds-at-end : goal.slice_bounds-at-end

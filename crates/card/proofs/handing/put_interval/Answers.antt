@@ -1,7 +1,6 @@
 -- `put_interval` meets its contract.
 -- Assumes nothing.
 use Rattle.card.proofs.Written.{interval-wrote}
-use borrow.Author.Rules.{rules}
 use Rattle.card.proofs.handing.put_interval.Goals as goal
 
 pub returns : goal.returns

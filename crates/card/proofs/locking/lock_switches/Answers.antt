@@ -1,7 +1,6 @@
 -- `lock_switches` meets its contract.
 -- Assumes nothing.
 use mathlib.Core.Path.{refl}
-use borrow.Author.Rules.{rules}
 use Rattle.card.proofs.locking.lock_switches.Goals as goal
 
 pub returns-then-there : goal.returns-then-there

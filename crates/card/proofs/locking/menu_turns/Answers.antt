@@ -1,7 +1,6 @@
 -- `menu_turns` meets its contract.
 -- Assumes nothing.
 use mathlib.Core.Path.{refl}
-use borrow.Author.Rules.{rules}
 use Rattle.card.proofs.locking.menu_turns.Goals as goal
 
 pub returns-then-was-on : goal.returns-then-was-on
