@@ -10,7 +10,7 @@ use lib.ListN.{length, drop, length-drop}
 use lib.Seq.{length-take-le}
 use borrow.Author.Tests.{eq-eqb, ne_eqb, le-leb, lt-leb, eqb-true, leb-true}
 use Rattle.lists.specs.Tests.{◌≤?◌}
-use Rattle.std.specs.Prelude.{if◌then◌else◌, ◌==◌}
+use Rattle.std.specs.Prelude.{◌==◌}
 use Rattle.lists.specs.Lists.{every?}
 use Rattle.lists.proofs.Truth.{and_left, and_right}
 use Rattle.rules.specs.Bytes.{byte}
