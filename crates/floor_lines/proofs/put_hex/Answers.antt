@@ -9,7 +9,7 @@ pub loop-i-init : goal.loop-i-init
 loop-i-init c = spelled_none _ _ _ c.requires
 
 pub digit-requires : goal.digit-requires
-digit-requires c = omega (arith, c.shared_slice_known-in-loop-i-1.given c.loop-i.i)
+digit-requires c = omega (arith, c.type_inv.bytes c.loop-i.i)
 
 pub loop-i-preserved : goal.loop-i-preserved
 loop-i-preserved c = spelled-more _ _ _ (search rules) _ c.loop-i-test.true c.loop-i.invariant c.digit.ensures c.digit-in-loop-i.ensures c.put-next.ensures

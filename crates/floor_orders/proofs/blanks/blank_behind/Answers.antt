@@ -5,4 +5,4 @@ use Rattle.floor_orders.proofs.WordLaws.{blank-shifted}
 use Rattle.floor_orders.proofs.blanks.blank_behind.Goals as goal
 
 pub returns : goal.returns
-returns c = blank-shifted c.args.s.now c.args.at c.args.n _ (λ i. omega (arith, c.shared_slice_known-1.given i)) c.eight.ensures
+returns c = blank-shifted c.args.s.now c.args.at c.args.n _ (λ i. omega (arith, c.type_inv.s i)) c.eight.ensures
