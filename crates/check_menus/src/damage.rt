@@ -2,7 +2,7 @@
 // What is counted is how many were tried and how many of them the reader refuses.
 ghost use Rattle.std.specs.Prelude.{◌+◌, ◌<◌, ◌≤◌, length};
 
-use libc::STDOUT_FILENO;
+use std::io::Write;
 use texts::byte_at;
 
 // How a byte is changed.
@@ -22,8 +22,8 @@ pub struct Tried {
 
 fn changed(old: u8, way: Way) -> u8 {
     match way {
-        Way::Up => std::num::wrapping_add_u8(old, 1),
-        Way::Down => std::num::wrapping_sub_u8(old, 1),
+        Way::Up => old.wrapping_add(1),
+        Way::Down => old.wrapping_sub(1),
         Way::Turned(bits) => old ^ bits,
         Way::To(b) => b,
     }
@@ -38,8 +38,8 @@ fn none() -> Tried {
 
 fn and_one(before: Tried, refusal: u8) -> Tried {
     Tried {
-        count: std::num::wrapping_add_u64(before.count, 1),
-        refused: std::num::wrapping_add_u64(before.refused, refusal as u64),
+        count: before.count.wrapping_add(1),
+        refused: before.refused.wrapping_add(refusal as u64),
     }
 }
 
@@ -131,9 +131,10 @@ fn each_length(s: &mut [u8], way: Way) -> Tried {
 }
 
 // Writes how many were tried and refused of the kind of damage at a place.
-fn told(kind: usize, tried: Tried) {
-    crate::put(b"  ");
+fn told(to: &mut impl Write, kind: usize, tried: Tried) {
+    crate::put(to, b"  ");
     crate::put_line(
+        to,
         b"a byte less: \n\
           a byte behind: \n\
           length one more: \n\
@@ -145,46 +146,46 @@ fn told(kind: usize, tried: Tried) {
           highest bit turned: \n",
         kind,
     );
-    io::print_decimal(STDOUT_FILENO, tried.refused);
-    crate::put(b" of ");
-    io::print_decimal(STDOUT_FILENO, tried.count);
-    crate::put(b" refused\n");
+    crate::put_number(to, tried.refused);
+    crate::put(to, b" of ");
+    crate::put_number(to, tried.count);
+    crate::put(to, b" refused\n");
 }
 
 // The items, where there are any.
-fn tell_items(s: &mut [u8]) {
+fn tell_items(to: &mut impl Write, s: &mut [u8]) {
     let items = items_at(s);
     if byte_at(s, items + 1) == 0 {
         return;
     }
     let first = byte_at(s, items + 2);
     let second = past(s, items);
-    told(5, each_element(none(), s, second, 2, Way::To(first)));
-    told(6, each_element(none(), s, items, 1, Way::To(0)));
+    told(to, 5, each_element(none(), s, second, 2, Way::To(first)));
+    told(to, 6, each_element(none(), s, items, 1, Way::To(0)));
 }
 
-fn tell_bits(s: &mut [u8]) {
-    told(7, each_byte(s, Way::Turned(1)));
-    told(8, each_byte(s, Way::Turned(0x80)));
+fn tell_bits(to: &mut impl Write, s: &mut [u8]) {
+    told(to, 7, each_byte(s, Way::Turned(1)));
+    told(to, 8, each_byte(s, Way::Turned(0x80)));
 }
 
 // Every kind of damage that leaves the command its size.
-fn tell_kinds(s: &mut [u8]) {
-    told(2, each_length(s, Way::Up));
-    told(3, each_length(s, Way::Down));
+fn tell_kinds(to: &mut impl Write, s: &mut [u8]) {
+    told(to, 2, each_length(s, Way::Up));
+    told(to, 3, each_length(s, Way::Down));
     let v = value_at(s);
-    told(4, each_element(none(), s, v, 0, Way::Turned(0x80)));
-    tell_items(s);
-    tell_bits(s);
+    told(to, 4, each_element(none(), s, v, 0, Way::Turned(0x80)));
+    tell_items(to, s);
+    tell_bits(to, s);
 }
 
 // Every kind of damage to the first n bytes.
-pub fn tell(out: &mut [u8], n: usize)
+pub fn tell(to: &mut impl Write, out: &mut [u8], n: usize)
     requires { (1 ≤ n) × (n < length out.old) }
 {
     let less = n - 1;
     let more = n + 1;
-    told(0, and_one(none(), refusal(&out[..less])));
-    told(1, behind(&mut out[..more], n));
-    tell_kinds(&mut out[..n]);
+    told(to, 0, and_one(none(), refusal(&out[..less])));
+    told(to, 1, behind(&mut out[..more], n));
+    tell_kinds(to, &mut out[..n]);
 }
