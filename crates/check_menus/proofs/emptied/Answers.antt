@@ -9,4 +9,4 @@ use Rattle.check_menus.proofs.emptied.Goals as goal
 
 pub returns : goal.returns
 unfolding replied
-returns c = subst⁻¹ (λ (x : Reply). Left x.card) c.delete.ensures (left-again _ _ c.requires)
+returns c = subst⁻¹ (λ (x : Reply). Left x.card) c.delete-changed.ensures (left-again _ _ c.requires)

@@ -10,4 +10,4 @@ use Rattle.check_menus.proofs.filled.Goals as goal
 
 pub loop-i-preserved : goal.loop-i-preserved
 unfolding replied
-loop-i-preserved c = (search rules, subst⁻¹ (λ (x : Reply). Left x.card) c.new_entry.ensures (left-again _ _ c.loop-i.invariant.1))
+loop-i-preserved c = (search rules, subst⁻¹ (λ (x : Reply). Left x.card) c.new_entry-numbered.ensures (left-again _ _ c.loop-i.invariant.1))

@@ -1,5 +1,5 @@
 -- Each entry leaves a card that calls have left.
-use Rattle.std.proofs.Common.{◌-◌, ◌≤◌, length}
+use Rattle.std.proofs.Common.{◌-◌, ◌≤◌}
 use Rattle.card.specs.View.{Left}
 use Rattle.check_menus.proofs.filled.Given as goal
 

@@ -10,4 +10,4 @@ use Rattle.check_menus.proofs.installed.Goals as goal
 
 pub loop-applet-preserved : goal.loop-applet-preserved
 unfolding replied
-loop-applet-preserved c = (search rules, subst⁻¹ (λ (x : Reply). Left x.card) c.install.ensures (left-again _ _ c.loop-applet.invariant.1))
+loop-applet-preserved c = (search rules, subst⁻¹ (λ (x : Reply). Left x.card) c.install-changed.ensures (left-again _ _ c.loop-applet.invariant.1))

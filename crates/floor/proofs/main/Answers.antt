@@ -7,4 +7,4 @@ use Rattle.card.proofs.FreshCard.{fresh-left}
 use Rattle.floor.proofs.main.Goals as goal
 
 pub obey_input-requires : goal.obey_input-requires
-obey_input-requires g c = subst⁻¹ (λ (x : Reply). Left x.card) c.fresh-made.ensures (fresh-left _)
+obey_input-requires c = subst⁻¹ (λ (x : Reply). Left x.card) c.fresh-made.ensures (fresh-left _)

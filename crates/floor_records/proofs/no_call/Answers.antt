@@ -1,7 +1,6 @@
 -- `floor_records::no_call` meets its contract.
 -- Assumes nothing.
 use mathlib.Core.Path.{refl}
-use borrow.Author.Rules.{rules}
 use Rattle.floor_records.proofs.no_call.Goals as goal
 
 pub returns : goal.returns

@@ -1,10 +1,9 @@
 -- `floor_records::obey_all` meets its contract: with i records obeyed, their lines stand at the front, the rest of the piece gives the rest, and the
 -- next number is spelled. Assumes nothing.
-use Prim.Native.Nat.{ℕ, ◌*◌, ◌+◌, ◌-◌, ◌^◌, ◌≤◌, ◌<◌}
+use Prim.Native.Nat.{ℕ, ◌*◌, ◌+◌, ◌^◌, ◌≤◌, ◌<◌}
 use native.Mathlib.Omega.{arith}
-use mathlib.Core.Path.{◌≡◌, sym, ap, ◌∙◌}
+use mathlib.Core.Path.{sym, ap, ◌∙◌}
 use mathlib.Core.List.{List}
-use mathlib.Core.Logic.{⊎_elim}
 use lib.ListN.{length, take, length-take}
 use lib.Seq.{length-take-le}
 use mir.Syntax.{w16}
@@ -13,7 +12,6 @@ use borrow.Author.Rules.{rules}
 use Rattle.rules.specs.Holds.{Model}
 use Rattle.card.specs.declared.Card.{Card}
 use Rattle.card.specs.View.{view}
-use Rattle.floor_lines.specs.Texts.{Spells}
 use Rattle.floor_lines.proofs.LineLaws.{decimal-20}
 use Rattle.floor_lines.proofs.Counting.{spells-few, wrote-spells}
 use Rattle.floor_records.specs.Pieces.{records_in}
@@ -77,25 +75,25 @@ loop-i-preserved c =
     let l = c.loop-i in
     let s = c.first-bytes.result.now in
     let h : Heard l.card s c.call_letter-call.result c.byte_at-applet.result c.arguments-rest.result.now l.command =
-        record { left = l.invariant.0.left; letter = c.call_letter-call.ensures; applet = c.byte_at-applet.ensures; arguments = c.arguments-rest.ensures; wide = l.invariant.3 } in
+    record { left = l.invariant.0.left; letter = c.call_letter-call.ensures; applet = c.byte_at-applet.ensures; arguments = c.arguments-rest.ensures; wide = l.invariant.3 } in
     let made : Made (view l.card) s c.call_letter-call.result c.match-call.command c.match-call.reply =
-        elim c.match-call.branch [
-          in-73 w ↦ installs h w.request.ensures w.in-73.is w.install-reply.ensures w.command-is w.reply-is
-        | in-77 w ↦ enters h w.byte_at.ensures w.from-in-77.ensures w.in-77.is w.new_entry-reply.ensures w.command-is w.reply-is
-        | in-69 w ↦ sets h (to_z-of_z w16 _ (record { sfits = w.value_of.type_inv }) ∙ w.value_of.ensures) w.in-69.is w.set_event-reply.ensures w.command-is w.reply-is
-        | in-67 w ↦ clears h (to_z-of_z w16 _ (record { sfits = w.value_of-in-67.type_inv }) ∙ w.value_of-in-67.ensures) w.in-67.is w.clear_event-reply.ensures w.command-is w.reply-is
-        | in-80 w ↦ profiles h w.in-80.is w.profile-reply.ensures w.command-is w.reply-is
-        | in-83 w ↦ arrives h w.in-83.is w.envelope-reply.ensures w.command-is w.reply-is
-        | in-79 w ↦ settles h w.in-79.is w.settled-reply.ensures w.command-is w.reply-is
-        | in-78 w ↦ turns h w.in-78.is w.next-reply.ensures w.command-is w.reply-is
-        | in-87 w ↦ made-command h w.in-87.is w.system_command-reply.ensures w.system_command-reply.auto.buf w.command-is w.reply-is
-        | in-82 w ↦ responds h w.in-82.is w.response-reply.ensures w.command-is w.reply-is
-        | in-84 w ↦ allocates h w.in-84.is w.allocate-reply.ensures w.command-is w.reply-is
-        | in-68 w ↦ deletes h w.in-68.is w.delete-reply.ensures w.command-is w.reply-is
-        | in-76 w ↦ locks h w.in-76.is w.lock-reply.ensures w.command-is w.reply-is
-        | in-85 w ↦ unlocks h w.in-85.is w.unlock-reply.ensures w.command-is w.reply-is
-        | in_default w ↦ made_none h w.in_default.in_default-own.rest w.no_call-reply.ensures w.command-is w.reply-is
-        ] in
+    elim c.match-call.branch [
+      | in-73 w ↦ installs h w.request.ensures w.in-73.is w.install-reply.ensures w.command-is w.reply-is
+      | in-77 w ↦ enters h w.byte_at.ensures w.from-in-77.ensures w.in-77.is w.new_entry-reply.ensures w.command-is w.reply-is
+      | in-69 w ↦ sets h (to_z-of_z w16 _ (record { sfits = w.value_of.type_inv }) ∙ w.value_of.ensures) w.in-69.is w.set_event-reply.ensures w.command-is w.reply-is
+      | in-67 w ↦ clears h (to_z-of_z w16 _ (record { sfits = w.value_of-in-67.type_inv }) ∙ w.value_of-in-67.ensures) w.in-67.is w.clear_event-reply.ensures w.command-is w.reply-is
+      | in-80 w ↦ profiles h w.in-80.is w.profile-reply.ensures w.command-is w.reply-is
+      | in-83 w ↦ arrives h w.in-83.is w.envelope-reply.ensures w.command-is w.reply-is
+      | in-79 w ↦ settles h w.in-79.is w.settled-reply.ensures w.command-is w.reply-is
+      | in-78 w ↦ turns h w.in-78.is w.next-reply.ensures w.command-is w.reply-is
+      | in-87 w ↦ made-command h w.in-87.is w.system_command-reply.ensures w.system_command-reply.auto.buf w.command-is w.reply-is
+      | in-82 w ↦ responds h w.in-82.is w.response-reply.ensures w.command-is w.reply-is
+      | in-84 w ↦ allocates h w.in-84.is w.allocate-reply.ensures w.command-is w.reply-is
+      | in-68 w ↦ deletes h w.in-68.is w.delete-reply.ensures w.command-is w.reply-is
+      | in-76 w ↦ locks h w.in-76.is w.lock-reply.ensures w.command-is w.reply-is
+      | in-85 w ↦ unlocks h w.in-85.is w.unlock-reply.ensures w.command-is w.reply-is
+      | in_default w ↦ made_none h w.in_default.in_default-own.rest w.no_call-reply.ensures w.command-is w.reply-is
+    ] in
     let bytes = c.first-bytes.ensures ∙ ap (take 24) c.from.ensures in
     let line = c.write_answer-len.ensures l.number l.invariant.1.text in
     let obeys = at-record l.number s c.byte_at-letter.ensures made line in
@@ -103,4 +101,3 @@ loop-i-preserved c =
 
 pub returns : goal.returns
 returns c = Begun-all c.loop-i-test.false c.loop-i.invariant.0
-

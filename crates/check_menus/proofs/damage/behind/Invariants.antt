@@ -1,5 +1,5 @@
 -- The measure is how many values are left.
-use Rattle.std.proofs.Common.{◌-◌, ◌≤◌, length}
+use Rattle.std.proofs.Common.{◌-◌, ◌≤◌}
 use Rattle.check_menus.proofs.damage.behind.Given as goal
 
 abbrev pub invariant-loop-i : goal.invariant-loop-i

@@ -1,5 +1,5 @@
 -- The measure is how many bytes are left.
-use Rattle.std.proofs.Common.{◌-◌, ◌≤◌, length}
+use Rattle.std.proofs.Common.{◌-◌, ◌≤◌}
 use Rattle.check_menus.proofs.damage.each_byte.Given as goal
 
 abbrev pub invariant-loop-i : goal.invariant-loop-i
