@@ -11,14 +11,13 @@ use Rattle.rules.specs.Runs.{card_after}
 use Rattle.card.specs.declared.Card.{Card}
 use Rattle.card.specs.View.{view}
 use Rattle.card.specs.Replies.{replied}
-use Rattle.history.specs.Handed.{Seen, seen}
+use Rattle.history.specs.Handed.{Seen}
 use Rattle.history.specs.OnScreen.{hand_outs}
 use Rattle.promises.specs.Watched.{calls_of, call, Watched, more}
 use Rattle.promises.specs.Promised.{Taken, Handlers, position_of, Orders, HandedOut, none, then, Shows, OnScreen, Promised}
 use Rattle.promises.proofs.SameRuns.{next-view, watched-left}
 use Rattle.promises.proofs.OnScreen as watched
-use Rattle.promises.proofs.TablesNamed.{holds}
-use Rattle.promises.proofs.CallsNamed.{handlers, judged, orders, shows}
+use Rattle.promises.proofs.CallsNamed.{handlers, orders, shows}
 use Rattle.promises.proofs.Carried.{of-call, holds-of-it, judged-of-it, answers-of-it}
 use Rattle.promises.proofs.FiringOnce.{fires-once}
 use Rattle.promises.proofs.OldNames.{old-list}
