@@ -2,7 +2,7 @@
 -- next number is spelled. Assumes nothing.
 use Prim.Native.Nat.{ℕ, ◌*◌, ◌+◌, ◌^◌, ◌≤◌, ◌<◌}
 use native.Mathlib.Omega.{arith}
-use mathlib.Core.Path.{sym, ap, ◌∙◌}
+use mathlib.Core.Path.{refl, sym, ap, ◌∙◌}
 use mathlib.Core.List.{List}
 use lib.ListN.{length, take, length-take}
 use lib.Seq.{length-take-le}
@@ -82,16 +82,16 @@ loop-i-preserved c =
       | in-77 w ↦ enters h w.byte_at.ensures w.from-in-77.ensures w.in-77.is w.new_entry-reply.ensures w.command-is w.reply-is
       | in-69 w ↦ sets h (to_z-of_z w16 _ (record { sfits = w.value_of.type_inv }) ∙ w.value_of.ensures) w.in-69.is w.set_event-reply.ensures w.command-is w.reply-is
       | in-67 w ↦ clears h (to_z-of_z w16 _ (record { sfits = w.value_of-in-67.type_inv }) ∙ w.value_of-in-67.ensures) w.in-67.is w.clear_event-reply.ensures w.command-is w.reply-is
-      | in-80 w ↦ profiles h w.in-80.is w.profile-reply.ensures w.command-is w.reply-is
-      | in-83 w ↦ arrives h w.in-83.is w.envelope-reply.ensures w.command-is w.reply-is
-      | in-79 w ↦ settles h w.in-79.is w.settled-reply.ensures w.command-is w.reply-is
-      | in-78 w ↦ turns h w.in-78.is w.next-reply.ensures w.command-is w.reply-is
+      | in-80 w ↦ profiles h w.in-80.is (cc) w.command-is refl
+      | in-83 w ↦ arrives h w.in-83.is (cc) w.command-is refl
+      | in-79 w ↦ settles h w.in-79.is (cc) w.command-is refl
+      | in-78 w ↦ turns h w.in-78.is (cc) w.command-is refl
       | in-87 w ↦ made-command h w.in-87.is w.system_command-reply.ensures w.system_command-reply.auto.buf w.command-is w.reply-is
-      | in-82 w ↦ responds h w.in-82.is w.response-reply.ensures w.command-is w.reply-is
-      | in-84 w ↦ allocates h w.in-84.is w.allocate-reply.ensures w.command-is w.reply-is
-      | in-68 w ↦ deletes h w.in-68.is w.delete-reply.ensures w.command-is w.reply-is
-      | in-76 w ↦ locks h w.in-76.is w.lock-reply.ensures w.command-is w.reply-is
-      | in-85 w ↦ unlocks h w.in-85.is w.unlock-reply.ensures w.command-is w.reply-is
+      | in-82 w ↦ responds h w.in-82.is (cc) w.command-is refl
+      | in-84 w ↦ allocates h w.in-84.is (cc) w.command-is refl
+      | in-68 w ↦ deletes h w.in-68.is (cc) w.command-is refl
+      | in-76 w ↦ locks h w.in-76.is (cc) w.command-is refl
+      | in-85 w ↦ unlocks h w.in-85.is (cc) w.command-is refl
       | in_default w ↦ made_none h w.in_default.in_default-own.rest w.no_call-reply.ensures w.command-is w.reply-is
     ] in
     let bytes = c.first-bytes.ensures ∙ ap (take 24) c.from.ensures in
