@@ -1,4 +1,4 @@
--- `floor_records::obey_all` meets its contract: with i records obeyed, their lines stand at the front, the rest of the piece gives the rest, and the
+-- With i records obeyed, their lines stand at the front, the rest of the piece gives the rest, and the next number is spelled.
 use Prim.Native.Nat.{◌-◌}
 use mathlib.Core.Path.{◌≡◌}
 use lib.ListN.{length}
