@@ -22,7 +22,7 @@ APART = [
     ("crates/script", r"\brecord_of\b", "a_record"),
 ]
 CAMEL = re.compile(r"(?<![\w'])[a-z][a-z0-9]*(?:[A-Z][A-Za-z0-9]*)+(?![\w])")
-STRING = re.compile(r'b?"(?:[^"\\\n]|\\.)*"|b\'[^\']*\'')
+STRING = re.compile(r'b?"(?:[^"\\\n]|\\.|\\\n)*"|b\'[^\']*\'')
 
 
 def snake(word):
