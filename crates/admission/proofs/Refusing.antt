@@ -1,11 +1,9 @@
 -- The table of refusals for an install, by the roll of the applets present.
 -- Assumes nothing.
-use Prim.Native.Nat.{ℕ, suc, ◌+◌, ◌≤◌, ◌<◌}
-use native.Mathlib.Omega.{arith}
+use Prim.Native.Nat.{ℕ, suc, ◌+◌}
 use mathlib.Core.Path.{◌≡◌, refl, sym, ap, ◌∙◌}
-use mathlib.Core.Bool.{Bool, true, false, not}
+use mathlib.Core.Bool.{Bool, not}
 use mathlib.Core.List.{List, [], ◌∷◌}
-use borrow.Author.Tests.{le-leb, lt-leb, lt-ltb, le-ltb}
 use Rattle.lists.specs.Tests.{◌<?◌}
 use Rattle.std.specs.Prelude.{◌==◌}
 use Rattle.lists.specs.Lists.{some?, keep, sum, gather, in?, repeats?, padded}
@@ -43,9 +41,9 @@ module _ (t : Tables) (s : SoundTables t) (e : t.bounds ≡ document) where
   abbrev grants : List Grant
   grants = table 8 (λ i. grant_of (at t.applets (suc i)))
 
-  limits-are : sum limit grants ≡ sum entries t.applets
+  limits-sum : sum limit grants ≡ sum entries t.applets
   unfolding grant_of table sum numbers
-  limits-are = sym (sum_by t s e entries refl)
+  limits-sum = sym (sum_by t s e entries refl)
 
   asked : (i : ℕ) → in? i (taken grants) ≡ in? i (gather (λ (x : Applet). requested x.limits.pairs) t.applets)
   unfolding in?
@@ -62,7 +60,7 @@ module _ (t : Tables) (s : SoundTables t) (e : t.bounds ≡ document) where
       (ap (λ (b : Bounds). not (is_number b n)) (sym e))
       (present-in t s e n)
       (ap (λ (b : Bounds). out_of_range b q) (sym e))
-      (ap (λ (k : ℕ). 12 <? k + q.entries) limits-are ∙ ap (λ (b : Bounds). b.rows <? sum entries t.applets + q.entries) (sym e))
+      (ap (λ (k : ℕ). 12 <? k + q.entries) limits-sum ∙ ap (λ (b : Bounds). b.rows <? sum entries t.applets + q.entries) (sym e))
       (repeats-alike (requested (looked_at q)) (taken grants) _ asked)
     where
       five : {a b c d f k l m o p : Bool} → a ≡ k → b ≡ l → c ≡ m → d ≡ o → f ≡ p → first_holding (line 2 a ∷ line 3 b ∷ line 4 c ∷ line 5 d ∷ line 6 f ∷ []) ≡ first_holding (line 2 k ∷ line 3 l ∷ line 4 m ∷ line 5 o ∷ line 6 p ∷ [])
@@ -71,26 +69,9 @@ module _ (t : Tables) (s : SoundTables t) (e : t.bounds ≡ document) where
 pub refusing : (s : Roll) (n : ℕ) (q : Request) {r : ℕ} → r ≡ first_holding (lines_by s n q) → RefusesInstall s n q r
 refusing s n q r t sound e is = r ∙ ap (λ (k : Roll). first_holding (lines_by k n q)) is ∙ lines_are t sound e n q
 
--- the tests of the lines, by what the code asks
-pub number-zero : (n : ℕ) → n ≡ 0 → not (is_number document n) ≡ true
-unfolding is_number
-number-zero n e = rw (lt-leb 1 n (omega arith)) refl
-
-pub number-over : (n : ℕ) → 8 < n → not (is_number document n) ≡ true
-unfolding is_number
-number-over n h = rw (le-leb 1 n (omega arith), lt-leb n 8 h) refl
-
-pub number-within : (n : ℕ) → (n ≡ 0 → ⊥) → n ≤ 8 → not (is_number document n) ≡ false
-unfolding is_number
-number-within n z h = rw (le-leb 1 n (omega (arith, z)), le-leb n 8 h) refl
-
 -- so much is there, and so much is asked for
-module _ {there more asked : ℕ} (g : List Grant) (is : there ≡ sum limit g) (asks : more ≡ asked) where
-  pub limits-over : 12 < there + more → (12 <? sum limit g + asked) ≡ true
-  limits-over h = lt-ltb 12 (sum limit g + asked) (omega arith)
-
-  pub limits-within : there + more ≤ 12 → (12 <? sum limit g + asked) ≡ false
-  limits-within h = le-ltb 12 (sum limit g + asked) (omega arith)
+pub limits-are : {there more entries asked : ℕ} (g : List Grant) → entries ≡ there + more → there ≡ sum limit g → more ≡ asked → (12 <? sum limit g + asked) ≡ (12 <? entries)
+limits-are g e is asks = rw (e, is, asks) refl
 
 -- the pairs looked at, with blanks behind, request the same
 pub clash-is : (q : Request) (others : List ℕ) {b : Bool} {ps : List Pair} → ps ≡ padded 4 no_pair (looked_at q) → b ≡ repeats? (requested ps) others → b ≡ repeats? (requested (looked_at q)) others

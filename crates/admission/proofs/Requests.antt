@@ -4,18 +4,21 @@ use Prim.Native.Nat.{ℕ, zero, suc, ◌+◌, ◌-◌, ◌≤◌, ◌<◌}
 use mathlib.Core.Path.{◌≡◌, refl, sym, ap, ◌∙◌}
 use mathlib.Core.Bool.{Bool, true, false, not, ◌&&◌, ◌||◌}
 use mathlib.Core.List.{List, [], ◌∷◌, ◌++◌, map, append-nil}
-use lib.ListN.{length, drop, get_or, replicate, drop_of_length-le}
+use lib.ListN.{length, take, drop, get_or, replicate, drop_of_length-le}
 use borrow.Author.Tests.{eqb-true, ne_eqb}
 use Rattle.std.specs.Prelude.{if◌then◌else◌, ◌==◌}
+use Rattle.std.proofs.lemmas.List.{drop-replicate}
 use Rattle.lists.specs.Lists.{some?, keep, padded, in?, repeats?}
 use Rattle.lists.proofs.Keep.{keep_append}
 use Rattle.lists.proofs.Mapped.{map-append}
+use Rattle.lists.proofs.Parts.{part-rest}
 use Rattle.lists.proofs.Sums.{some-gather}
 use Rattle.lists.proofs.Truth.{or-false, or_assoc}
-use Rattle.lists.proofs.Walk.{drop-step, some_alike}
+use Rattle.lists.proofs.Walk.{drop-step, some_alike, take-taken}
 use Rattle.rules.specs.declared.Pair.{Pair}
 use Rattle.rules.specs.declared.Grant.{Grant}
-use Rattle.rules.specs.Applets.{requested}
+use Rattle.rules.specs.declared.Request.{Request}
+use Rattle.rules.specs.Applets.{requested, looked_at}
 use Rattle.rules.specs.Rows.{no_pair}
 use Rattle.admission.specs.Refuses.{taken, asks_for, has_requested}
 
@@ -33,6 +36,12 @@ requested-padded cap ps =
     ∙ keep_append (λ i. not (i == 0)) (map (λ (p : Pair). p.identifier) ps) (map (λ (p : Pair). p.identifier) blanks)
     ∙ ap (λ (l : List ℕ). requested ps ++ l) (none-blank (cap - length ps))
     ∙ append-nil (requested ps)
+
+-- the pairs that are looked at, put into an array of blanks
+pub looked-put : (q : Request) {k n : ℕ} {front : List Pair} → n ≡ k → k ≡ length (looked_at q) → k ≤ 4 → front ≡ take n q.pairs → front ++ drop n (replicate 4 no_pair) ≡ padded 4 no_pair (looked_at q)
+unfolding looked_at padded
+looked-put q {k} {n} same long few front =
+    rw (front, same, long, take-taken q.entries q.pairs) (ap (λ (l : List Pair). take q.entries q.pairs ++ l) (drop-replicate (length (looked_at q)) 4 no_pair))
 
 -- who requests an identifier
 pub in_taken : (i : ℕ) (l : List Grant) → in? i (taken l) ≡ some? (λ (g : Grant). in? i (requested g.pairs)) l
@@ -58,6 +67,9 @@ module _ (ps : List Pair) (others : List ℕ) where
   pub record Repeated (found : Bool) (i : ℕ) : Type 0 where
     pub left : repeats? (requested ps) others ≡ (found || repeats? (requested (drop i ps)) others)
 
+  pub behind-all : (n i : ℕ) → length ps ≡ n → take (n - i) (drop i ps) ≡ drop i ps
+  behind-all n i e = rw (← e) (part-rest ps i)
+
   next : (p : Pair) (k : List Pair) → repeats? (requested (p ∷ k)) others ≡ (not (p.identifier == 0) && (in? p.identifier (requested k) || in? p.identifier others) || repeats? (requested k) others)
   unfolding requested keep repeats?
   next p k = go (p.identifier == 0)
@@ -67,13 +79,15 @@ module _ (ps : List Pair) (others : List ℕ) where
       go false = refl
 
   pub repeated-more
-      : (i : ℕ) (d : Pair) {x found : Bool}
+      : (i : ℕ) (d : Pair) {x found : Bool} {behind : List Pair}
       → i < length ps
-      → x ≡ (not ((get_or ps i d).identifier == 0) && (in? (get_or ps i d).identifier (requested (drop (i + 1) ps)) || in? (get_or ps i d).identifier others))
+      → behind ≡ drop (i + 1) ps
+      → x ≡ (not ((get_or ps i d).identifier == 0) && (in? (get_or ps i d).identifier (requested behind) || in? (get_or ps i d).identifier others))
       → Repeated found i
       → Repeated (found || x) (i + 1)
-  repeated-more i d {x} {found} h e o =
+  repeated-more i d {x} {found} h b e' o =
       let rest = repeats? (requested (drop (i + 1) ps)) others in
+      let e = rw b at e' in
       record {
         left =
             o.left

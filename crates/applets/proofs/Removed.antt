@@ -36,15 +36,17 @@ use Rattle.applets.proofs.Order.{keep-order, length-order}
 
 -- the roll by its parts
 pub roll-parts
-    : (s : Roll) (n : ℕ) {own present : ℕ} {age order : Lineup} {none : Grant}
+    : (s : Roll) (n : ℕ) {k i own present : ℕ} {age order : Lineup} {none : Grant}
+    → k ≡ s.count
+    → i ≡ n - 1
     → own ≡ single n
     → present ≡ set_without s.present own
-    → order ≡ lineup_of (keep (has? present) (take s.count s.order))
-    → age ≡ lineup_of (keep (has? present) (take s.count s.age))
+    → order ≡ lineup_of (keep (has? present) (take k s.order))
+    → age ≡ lineup_of (keep (has? present) (take k s.age))
     → none ≡ grant_of nobody
-    → ◌≡◌ {A = Roll} (record { present = present; count = age.count; age = age.at; order = order.at; grants = set s.grants (n - 1) none }) (roll_without s n)
+    → ◌≡◌ {A = Roll} (record { present = present; count = age.count; age = age.at; order = order.at; grants = set s.grants i none }) (roll_without s n)
 unfolding roll_without lineup_of
-roll-parts s n o p q r z = rw (r, q, p, o, z) refl
+roll-parts s n k i o p q r z = rw (r, q, p, o, z, i, k) refl
 
 abbrev numbers_of : List Applet → List ℕ
 numbers_of l = map (λ (x : Applet). x.number) l
@@ -103,18 +105,18 @@ module _ (l : List Applet) (n : ℕ) where
   unfolding selectable_set
   selectable-less = turned-without (set_of (λ k. (at l k).selectable)) n ∙ set-less (λ (x : Applet). x.selectable) refl
 
-  with-less : (f : Applet → ℕ) → table_with (table 8 (λ i. f (at l (suc i)))) n (f nobody) ≡ table 8 (λ i. f (at less (suc i)))
+  with-less : (f : Applet → ℕ) → table_with 0 (table 8 (λ i. f (at l (suc i)))) n (f nobody) ≡ table 8 (λ i. f (at less (suc i)))
   with-less f = with-one (λ k. f (at l k)) _ n (f nobody) (λ k. ap f (at_less k) ∙ go (n == k) (at l k))
     where
       go : (b : Bool) (x : Applet) → f (if b then nobody else x) ≡ (if b then f nobody else f x)
       go true x = refl
       go false x = refl
 
-  pub made-less : table_with (made_table l) n 0 ≡ made_table less
+  pub made-less : table_with 0 (made_table l) n 0 ≡ made_table less
   unfolding made_table
   made-less = with-less (λ (x : Applet). x.made)
 
-  pub poll-less : table_with (poll_table l) n 0 ≡ poll_table less
+  pub poll-less : table_with 0 (poll_table l) n 0 ≡ poll_table less
   unfolding poll_table
   poll-less = with-less (λ (x : Applet). x.poll)
 

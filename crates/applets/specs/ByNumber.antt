@@ -59,8 +59,8 @@ unfoldable pub poll_table : List Applet → List ℕ
 poll_table l = table document.applets (λ i. (at l (suc i)).poll)
 
 -- a table by number, with another value for a number; as it was outside 1..8
-unfoldable pub table_with : List ℕ → (number value : ℕ) → List ℕ
-table_with l n k = table document.applets (λ i. if suc i == n then k else get_or l i 0)
+unfoldable pub table_with : {A : Type 0} → (default : A) → List A → (number : ℕ) → (value : A) → List A
+table_with d l n k = table document.applets (λ i. if suc i == n then k else get_or l i d)
 
 -- the applet with a number and what it was installed with, in a state
 unfoldable pub applet_by : (number : ℕ) → Grant → (made : ℕ) (selectable : Bool) (events : List Bool) (poll : ℕ) → Applet

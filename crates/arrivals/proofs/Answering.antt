@@ -1,19 +1,24 @@
 -- The marks of an answer, and the desk after a profile, by the rules.
 -- Assumes nothing.
 use Prim.Native.Nat.{ℕ}
-use mathlib.Core.Path.{◌≡◌, refl}
-use mathlib.Core.Bool.{Bool, true, false, ◌&&◌}
+use mathlib.Core.Path.{◌≡◌, refl, ap, ◌∙◌}
+use mathlib.Core.Bool.{true, false}
 use mathlib.Core.List.{List}
+use borrow.Author.Tests.{ne_eqb}
 use lib.ListN.{take}
-use Rattle.std.specs.Prelude.{if◌then◌else◌}
+use Rattle.std.specs.Prelude.{Result, Ok, Err}
+use Rattle.std.specs.Result.{result_and, result_unwrap_or}
 use Rattle.lists.specs.Lists.{padded}
 use Rattle.rules.specs.declared.Desk as held
 use Rattle.rules.specs.declared.Due.{Due}
 use Rattle.rules.specs.declared.Marks.{Marks}
+use Rattle.rules.specs.declared.refused.Refused.{Refused}
 use Rattle.rules.specs.Arrivals.{no_marks}
+use Rattle.rules.specs.Numbers.{number_of, refusal_number}
 use Rattle.rules.specs.Held.{stored_desk}
 use Rattle.rules.specs.Desk.{with_profile}
-use Rattle.arrivals.specs.Answers.{Begins}
+use Rattle.rules.proofs.Numbers.{number-above}
+use Rattle.arrivals.specs.Answers.{answering, Begins}
 
 pub begins
     : (bytes : List ℕ) (due : Due) (k : held.Desk) {kept : List ℕ}
@@ -24,6 +29,10 @@ unfolding stored_desk with_profile
 begins bytes due k f t d e i = rw (f, e, i) refl
 
 -- the marks of an answer: none with a refusal
-pub allowed : (b : Bool) (m : Marks) → ◌≡◌ {A = Marks} (record { proactive = b && m.proactive; envelope = b && m.envelope; response = b && m.response }) (if b then m else no_marks)
-allowed true m = refl
-allowed false m = refl
+pub marks-beside : (x : Result Unit Refused) (m : Marks) {given : Result Marks Refused} → given ≡ result_and x (Ok m) → answering (refusal_number given) (result_unwrap_or given no_marks) ≡ answering (refusal_number x) m
+unfolding refusal_number
+marks-beside x m is = ap (λ (g : Result Marks Refused). answering (refusal_number g) (result_unwrap_or g no_marks)) is ∙ go x
+  where
+    go : (x : Result Unit Refused) → answering (refusal_number (result_and x (Ok m))) (result_unwrap_or (result_and x (Ok m)) no_marks) ≡ answering (refusal_number x) m
+    go (Ok b) = refl
+    go (Err r) = rw (ne_eqb (number_of r) 0 (number-above r)) refl

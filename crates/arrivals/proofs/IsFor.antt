@@ -7,7 +7,7 @@ use mathlib.Core.Bool.{Bool, true, false, not}
 use mathlib.Core.List.{List}
 use lib.ListN.{length, get_or, get_or-eq_default}
 use borrow.Author.Tests.{ne_eqb}
-use Rattle.std.specs.Prelude.{◌==◌}
+use Rattle.std.specs.Prelude.{Ok, ◌==◌}
 use Rattle.lists.specs.Tables.{table}
 use Rattle.lists.proofs.Decided.{turned}
 use Rattle.lists.proofs.Tables.{table_at}
@@ -105,7 +105,7 @@ module _ (t : Tables) where
       : SoundTables t → {rows : List Row} → t.rows ≡ rows → (item : ℕ) (h : Bool) {o s : ℕ}
       → o ≡ chosen_owner item h rows
       → s ≡ single o
-      → IsFor t (arrival_of (Menu item h)) s
+      → IsFor t (arrival_of (Ok (Menu item h))) s
   unfolding arrival_of
   row-for sound q item false e f =
       rw (f, e, ← q) (for-one t (choice item) (chosen_owner item false t.rows) (λ x k. choice-calls t item x sound.identifiers-apart k))

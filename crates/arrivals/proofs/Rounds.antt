@@ -1,24 +1,21 @@
 -- What arrived, by its kind and number; and what arrivals and turns make of the round's struct.
 -- Assumes nothing.
-use Prim.Native.Nat.{ℕ, zero, suc, ◌≤◌}
+use Prim.Native.Nat.{ℕ}
 use native.Mathlib.Omega.{arith}
-use mathlib.Core.Path.{◌≡◌, refl, sym, ap, ◌∙◌}
+use mathlib.Core.Path.{◌≡◌, refl, ◌∙◌}
 use mathlib.Core.Bool.{Bool, true, false, ◌||◌}
-use borrow.Author.Tests.{eqb-true, eqb-false, eq-eqb, ne_eqb}
-use Rattle.std.specs.Prelude.{if◌then◌else◌, ◌==◌}
+use borrow.Author.Tests.{eqb-true, eq-eqb, ne_eqb}
+use Rattle.std.specs.Prelude.{Ok, if◌then◌else◌, ◌==◌}
 use Rattle.lists.proofs.Decided.{clashing, neither}
-use Rattle.rules.specs.declared.Envelope.{Envelope}
-use Rattle.rules.specs.declared.Envelope.TheVariants.{Menu, Call, Download, Expiry, Unrecognized, Malformed}
-use Rattle.rules.specs.declared.Kind.{Kind}
-use Rattle.rules.specs.declared.Kind.TheVariants.{Event, Issuer, Reserved, Unsupported}
+use Rattle.rules.specs.declared.Envelope.TheVariants.{Menu}
 use Rattle.rules.specs.declared.Round as held
 use Rattle.rules.specs.declared.Arrived.{Arrived}
 use Rattle.rules.specs.Holds.{Arrival, event, choice, help, expiry, status, nothing}
-use Rattle.rules.specs.Events.{handler_available, kind_of_code}
-use Rattle.rules.specs.Arrivals.{download, arrival_of}
+use Rattle.rules.specs.Events.{handler_available}
+use Rattle.rules.specs.Arrivals.{arrival_of}
 use Rattle.rules.specs.Rounds.{by_settled}
 use Rattle.rules.specs.Held.{view_arrival, stored_arrival}
-use Rattle.sets.specs.Sets.{single, set_both, switched_set}
+use Rattle.sets.specs.Sets.{single, switched_set}
 use Rattle.arrivals.specs.Rounds.{leaving}
 
 -- WHAT ARRIVED, by its kind
@@ -27,12 +24,12 @@ module _ (a : Arrived) where
   unfolding view_arrival
   event-view e = rw e refl
 
-  pub row-view : (a.kind ≡ 1 → ⊥) → (a.kind == 3 || a.kind == 2) ≡ true → view_arrival a ≡ arrival_of (Menu a.number (a.kind == 3))
+  pub row-view : (a.kind ≡ 1 → ⊥) → (a.kind == 3 || a.kind == 2) ≡ true → view_arrival a ≡ arrival_of (Ok (Menu a.number (a.kind == 3)))
   unfolding view_arrival arrival_of
   row-view other e = rw (ne_eqb a.kind 1 other) (go (a.kind == 3) (a.kind == 2) refl refl e)
     where
       go : (x y : Bool) → (a.kind == 3) ≡ x → (a.kind == 2) ≡ y → (x || y) ≡ true
-          → (if y then choice a.number else if x then help a.number else if a.kind == 4 then expiry a.number else if a.kind == 5 then status else nothing) ≡ arrival_of (Menu a.number x)
+          → (if y then choice a.number else if x then help a.number else if a.kind == 4 then expiry a.number else if a.kind == 5 then status else nothing) ≡ arrival_of (Ok (Menu a.number x))
       go true true p q r = absurd (omega (arith, eqb-true a.kind 3 p, eqb-true a.kind 2 q))
       go true false p q r = refl
       go false true p q r = refl
@@ -73,15 +70,6 @@ module _ (a : Arrived) where
         go false false false true = refl
         go false false false false = refl
 
--- a choice of a row, or help on it, as it is kept
-pub row_kept : {e : Envelope} {item : ℕ} {h b : Bool} → e ≡ Menu item h → h ≡ b → ◌≡◌ {A = Arrived} (record { kind = if b then 3 else 2; number = item }) (stored_arrival (arrival_of e))
-unfolding stored_arrival arrival_of
-row_kept {item = item} {b = b} e f = rw (e, f) (go b)
-  where
-    go : (b : Bool) → ◌≡◌ {A = Arrived} (record { kind = if b then 3 else 2; number = item }) (stored_arrival (arrival_of (Menu item b)))
-    go true = refl
-    go false = refl
-
 -- kept and looked up again, it is as it arrived
 pub arrival-back : (a : Arrival) → view_arrival (stored_arrival a) ≡ a
 unfolding view_arrival stored_arrival
@@ -92,58 +80,7 @@ arrival-back (expiry k) = refl
 arrival-back status = refl
 arrival-back nothing = refl
 
--- with an envelope no STATUS arrives
-few-kinds : (e : Envelope) → (stored_arrival (arrival_of e)).kind ≤ 4
-unfolding stored_arrival arrival_of download
-few-kinds (Menu item false) = omega arith
-few-kinds (Menu item true) = omega arith
-few-kinds Call = omega arith
-few-kinds (Download code) = go (kind_of_code code)
-  where
-    go : (k : Kind) → (stored_arrival (download k)).kind ≤ 4
-    go (Event place) = omega arith
-    go Issuer = omega arith
-    go Reserved = omega arith
-    go Unsupported = omega arith
-few-kinds (Expiry timer) = omega arith
-few-kinds Unrecognized = omega arith
-few-kinds Malformed = omega arith
-
-none_left : (k : ℕ) → k ≤ 4 → (k ≡ 0 → ⊥) → (k ≡ 1 → ⊥) → (k ≡ 2 → ⊥) → (k ≡ 3 → ⊥) → (k ≡ 4 → ⊥) → ⊥
-none_left zero f a b c d e = a refl
-none_left (suc zero) f a b c d e = b refl
-none_left (suc (suc zero)) f a b c d e = c refl
-none_left (suc (suc (suc zero))) f a b c d e = d refl
-none_left (suc (suc (suc (suc zero)))) f a b c d e = e refl
-none_left (suc (suc (suc (suc (suc k))))) f a b c d e = absurd (omega arith)
-
-module _ (a : Arrived) (e : Envelope) (is : a ≡ stored_arrival (arrival_of e)) where
-  pub arrives : {b : Arrival} → view_arrival a ≡ b → arrival_of e ≡ b
-  arrives v = sym (arrival-back (arrival_of e)) ∙ ap view_arrival (sym is) ∙ v
-
-  pub arrives-nothing : a.kind ≡ 0 → arrival_of e ≡ nothing
-  unfolding view_arrival
-  arrives-nothing z = arrives (rw z refl)
-
-  pub arrives-row : (a.kind ≡ 1 → ⊥) → (a.kind ≡ 4 → ⊥) → (a.kind ≡ 0 → ⊥) → arrival_of e ≡ arrival_of (Menu a.number (a.kind == 3))
-  arrives-row p q r = arrives (row-view a p (go (a.kind == 3) (a.kind == 2) refl refl))
-    where
-      go : (x y : Bool) → (a.kind == 3) ≡ x → (a.kind == 2) ≡ y → (x || y) ≡ true
-      go true y u v = refl
-      go false true u v = refl
-      go false false u v =
-          let few = few-kinds e in
-          let kind : a.kind ≡ (stored_arrival (arrival_of e)).kind = ap (λ (b : Arrived). b.kind) is in
-          let i = eqb-false a.kind 3 u in
-          let j = eqb-false a.kind 2 v in
-          absurd (none_left a.kind (omega arith) r p j i q)
-
--- the round after an accepted arrival, and after a turn of one that was named
-pub opens
-    : (a : Arrived) (r : held.Round) (whom present : ℕ) {refusal w : ℕ} → refusal ≡ 0 → w ≡ set_both whom present
-    → ◌≡◌ {A = held.Round} (record { «open» = true; arrived = a; waiting = w }) (if refusal == 0 then record { «open» = true; arrived = a; waiting = set_both whom present } else r)
-opens a r whom present e f = rw (e, f) refl
-
+-- the round after a turn of one that was named
 pub turns
     : (r : held.Round) (n : ℕ) (none : held.Round) {w : ℕ} → (n ≡ 0 → ⊥) → w ≡ switched_set r.waiting n false
     → ◌≡◌ {A = held.Round} (record { «open» = r.«open»; arrived = r.arrived; waiting = w }) (if n == 0 then none else leaving r n)

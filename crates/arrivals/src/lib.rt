@@ -2,22 +2,26 @@
 // opens and what turns leave of it; the answer, with the handlers available; and the desk after a profile.
 #![tactic(auto)]
 
-ghost use Rattle.std.specs.Prelude.{◌≡◌, true, [], ◌∷◌};
+ghost use Rattle.std.specs.Prelude.{◌≡◌, true};
 ghost use Rattle.std.specs.Prelude.{if◌then◌else◌, ◌==◌};
+ghost use Rattle.std.specs.Result.{result_unwrap_or};
 ghost use Rattle.sets.specs.Sets.{single, set_both};
 ghost use Rattle.rules.specs.Holds.{event, nothing, no_round};
 ghost use Rattle.rules.specs.Events.{kind_of_code};
-ghost use Rattle.rules.specs.Arrivals.{download, arrival_of, responds, envelope_marks, other_marks};
+ghost use Rattle.rules.specs.Arrivals.{download, arrival_of, responds, no_marks, envelope_marks, other_marks};
 ghost use Rattle.rules.specs.Rounds.{by_settled};
-ghost use Rattle.rules.specs.Refusals.{line, first_holding};
+ghost use Rattle.rules.specs.Numbers.{refusal_number};
 ghost use Rattle.rules.specs.Held.{view_rows, TidyRows, view_arrival, stored_arrival};
-ghost use Rattle.arrivals.specs.Whom.{Registered, IsForOn, IsForEnvelope};
+ghost use Rattle.arrivals.specs.Whom.{Registered, IsForOn};
 ghost use Rattle.arrivals.specs.Rounds.{stored_round, leaving};
 ghost use Rattle.arrivals.specs.Answers.{answering, Begins};
 
-use rules::{Answer, Arrived, Bank, Desk, Due, Envelope, Kind, Marks, Roll, Round, Rows};
+use rules::{
+    Answer, Arrived, Bank, Desk, Due, Envelope, Kind, Malformed, Marks, Refused, Roll, Round, Rows,
+};
 
 // Nothing that anybody registers for.
+#[tactic(auto, unfolding(rules::specs::Held::stored_arrival))]
 fn nothing() -> Arrived
     ensures { result ≡ stored_arrival nothing }
 {
@@ -28,6 +32,7 @@ fn nothing() -> Arrived
 }
 
 // An event, by its place.
+#[tactic(auto, unfolding(rules::specs::Held::stored_arrival))]
 pub fn event_at(place: u8) -> Arrived
     ensures { result ≡ stored_arrival (event place) }
 {
@@ -38,6 +43,7 @@ pub fn event_at(place: u8) -> Arrived
 }
 
 // What arrives with an event download with this code.
+#[tactic(auto, unfolding(rules::specs::Arrivals::download))]
 fn download_of(code: u8) -> Arrived
     ensures { result ≡ stored_arrival (download (kind_of_code code)) }
 {
@@ -51,22 +57,23 @@ fn download_of(code: u8) -> Arrived
 }
 
 // What arrives with an envelope.
-pub fn arrival_of(e: Envelope) -> Arrived
+#[tactic(auto, unfolding(rules::specs::Arrivals::arrival_of, rules::specs::Held::stored_arrival))]
+pub fn arrival_of(e: Result<Envelope, Malformed>) -> Arrived
     ensures { result ≡ stored_arrival (arrival_of e) }
 {
     match e {
-        Envelope::Menu { item, help } => {
+        Ok(Envelope::Menu { item, help }) => {
             let kind = if help { Arrived::HELP } else { Arrived::CHOICE };
             Arrived { kind, number: item }
         }
-        Envelope::Call => event_at(Kind::CALL_CONTROL),
-        Envelope::Download { code } => download_of(code),
-        Envelope::Expiry { timer } => Arrived {
+        Ok(Envelope::Call) => event_at(Kind::CALL_CONTROL),
+        Ok(Envelope::Download { code }) => download_of(code),
+        Ok(Envelope::Expiry { timer }) => Arrived {
             kind: Arrived::EXPIRY,
             number: timer,
         },
-        Envelope::Unrecognized => event_at(Kind::UNRECOGNIZED_ENVELOPE),
-        Envelope::Malformed => nothing(),
+        Ok(Envelope::Unrecognized) => event_at(Kind::UNRECOGNIZED_ENVELOPE),
+        Err(Malformed) => nothing(),
     }
 }
 
@@ -84,34 +91,8 @@ fn listeners(registered: [u8; Kind::EVENTS], control: u8, place: u8) -> u8
     0
 }
 
-// Those whom an envelope is for, by what arrives with it.
-pub fn envelope_whom(
-    a: Arrived,
-    rows: Rows,
-    registered: [u8; Kind::EVENTS],
-    bank: Bank,
-    control: u8,
-) -> u8
-    requires { TidyRows rows }
-    ensures { IsForEnvelope (view_rows rows) registered bank.owner control a result }
-{
-    let kind = a.kind;
-    let number = a.number;
-    if kind == Arrived::EVENT {
-        return listeners(registered, control, number);
-    }
-    if kind == Arrived::EXPIRY {
-        let owner = timers::owner_of(bank, number);
-        return sets::bit(owner);
-    }
-    if kind == Arrived::NOTHING {
-        return 0;
-    }
-    let owner = menu_shown::chosen_owner(rows, number, kind == Arrived::HELP);
-    sets::bit(owner)
-}
-
-// Those whom what arrived is for.
+// Those whom what arrived is for, by fields of the C card; always in place, for a call from two places would be handed a copy of the rows.
+#[inline(always)]
 pub fn whom(
     a: Arrived,
     rows: Rows,
@@ -156,10 +137,16 @@ pub fn no_round() -> Round
 }
 
 // The round after an arrival: those of the present ones whom it is for wait; a refused arrival leaves the round.
-pub fn opened(refusal: u8, round: Round, arrived: Arrived, whom: u8, present: u8) -> Round
-    ensures { result ≡ (if refusal == 0 then record { «open» = true; arrived = arrived; waiting = set_both whom present } else round) }
+pub fn opened(
+    refusal: Result<(), Refused>,
+    round: Round,
+    arrived: Arrived,
+    whom: u8,
+    present: u8,
+) -> Round
+    ensures { result ≡ (if refusal_number refusal == 0 then record { «open» = true; arrived = arrived; waiting = set_both whom present } else round) }
 {
-    if refusal == 0 {
+    if refusal.is_ok() {
         let waiting = sets::both(whom, present);
         return Round {
             open: true,
@@ -205,16 +192,6 @@ pub fn used_up(arrived: Arrived, named: u8) -> u8
     0
 }
 
-// The refusal of an arrival that one line of the table lists: its number if it holds; else 0.
-pub fn refusal_if(holds: bool, number: u8) -> u8
-    ensures { result ≡ first_holding (line number holds ∷ []) }
-{
-    if holds {
-        return number;
-    }
-    0
-}
-
 // The marks that come with a profile, a settled moment or a STATUS.
 pub fn other_marks(outstanding: bool) -> Marks
     ensures { result ≡ other_marks outstanding }
@@ -228,21 +205,15 @@ pub fn other_marks(outstanding: bool) -> Marks
 }
 
 // Whether the response handler is available with an envelope.
-fn has_response(e: Envelope) -> bool
+#[tactic(auto, unfolding(rules::specs::Arrivals::responds))]
+fn has_response(e: Result<Envelope, Malformed>) -> bool
     ensures { result ≡ responds e }
 {
-    match e {
-        Envelope::Menu { item: _, help: _ } => false,
-        Envelope::Call => true,
-        Envelope::Download { code: _ } => false,
-        Envelope::Expiry { timer: _ } => false,
-        Envelope::Unrecognized => true,
-        Envelope::Malformed => false,
-    }
+    matches!(e, Ok(Envelope::Call | Envelope::Unrecognized))
 }
 
 // The marks that come with an envelope.
-pub fn envelope_marks(outstanding: bool, e: Envelope) -> Marks
+pub fn envelope_marks(outstanding: bool, e: Result<Envelope, Malformed>) -> Marks
     ensures { result ≡ envelope_marks outstanding e }
 {
     let response = has_response(e);
@@ -253,31 +224,27 @@ pub fn envelope_marks(outstanding: bool, e: Envelope) -> Marks
     }
 }
 
-// The answer: the refusal's number and the marks, of which there are none with a refusal.
-pub fn answered(refusal: u8, marks: Marks) -> Answer
-    ensures { result ≡ answering refusal marks }
+// The answer: the refusal, or the marks.
+#[tactic(auto, unfolding(rules::specs::Held::stored_answer, rules::specs::Numbers::refusal_number))]
+pub fn answered(given: Result<Marks, Refused>) -> Answer
+    ensures { result ≡ answering (refusal_number given) (result_unwrap_or given no_marks) }
 {
-    let accepted = refusal == 0;
-    let allowed = Marks {
-        proactive: accepted & marks.proactive,
-        envelope: accepted & marks.envelope,
-        response: accepted & marks.response,
-    };
-    Answer {
-        refusal,
-        number: 0,
-        says: false,
-        called: 0,
-        marks: allowed,
+    match given {
+        Ok(marks) => Answer {
+            marks,
+            ..answers::of_refusal(Ok(()))
+        },
+        Err(refusal) => answers::of_refusal(Err(refusal)),
     }
 }
 
 // The desk after a profile: a session has begun with these bytes, no command is outstanding, and this is due.
+#[tactic(auto, using(crate::proofs::Answering::begins))]
 pub fn begun(desk: Desk, due: Due, bytes: &[u8]) -> Desk
     ensures { Begins bytes.now due desk result }
 {
     let title = desk.title;
-    let profile = writing::held_profile(bytes);
+    let profile = writing::held(bytes);
     Desk {
         due,
         session: true,

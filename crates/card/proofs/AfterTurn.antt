@@ -11,9 +11,9 @@ use borrow.Author.Tests.{ne_eqb}
 use Rattle.std.specs.Prelude.{if◌then◌else◌, ◌==◌}
 use Rattle.lists.specs.Lists.{empty?, first}
 use Rattle.lists.specs.Tables.{table}
-use Rattle.lists.proofs.Decided.{clashing}
 use Rattle.lists.proofs.Ifs.{if-holds}
 use Rattle.lists.proofs.Places.{set-held}
+use Rattle.lists.proofs.Decided.{clashing}
 use Rattle.lists.proofs.Truth.{and-true}
 use Rattle.sets.specs.Sets.{numbers, valued, has?, set_of, single, set_both, set_without}
 use Rattle.sets.proofs.Bits.{has-set, has-empty, set-alike}
@@ -27,6 +27,11 @@ use Rattle.rules.specs.Applets.{present, with_registration}
 use Rattle.rules.specs.Arrivals.{no_marks}
 use Rattle.rules.specs.Calls.{next, calling}
 use Rattle.rules.specs.Desk.{marked}
+use Rattle.std.specs.Prelude.{Result, Ok, Err}
+use Rattle.std.specs.Result.{result_and, result_unwrap_or}
+use Rattle.rules.specs.declared.refused.Refused.{Refused}
+use Rattle.rules.specs.Numbers.{number_of, refusal_number}
+use Rattle.rules.proofs.Numbers.{number-above}
 use Rattle.rules.specs.Refusals.{line, first_holding, lines, refusal}
 use Rattle.rules.specs.Rounds.{named, round_with, by_settled, used_up}
 use Rattle.rules.specs.Step.{step, outcome, tables_after, round_after, desk_after, answer}
@@ -44,6 +49,20 @@ use Rattle.card.proofs.Listeners.{set_is}
 use Rattle.card.proofs.Events.{sets-are, roll-same, made-same, polls-same, selectable-same}
 use Rattle.card.proofs.Replied.{replies, tables_by, round_by, after-with, card-is, roll-form, selectable-form, registered-form, made-form, polls-form, control-form, rows-form, bank-form, round-less}
 use Rattle.card.proofs.Turn.{closed_is, closed_none, Turn, turn}
+
+-- the one called, beside the refusal
+pub called-beside
+    : (x : Result Unit Refused) (n : ℕ) {given : Result ℕ Refused}
+    → given ≡ result_and x (Ok n)
+    → ◌≡◌ {A = Answer} (record { refusal = refusal_number given; number = 0; says = false; called = result_unwrap_or given 0; marks = no_marks })
+    (record { refusal = refusal_number x; number = 0; says = false; called = if refusal_number x == 0 then n else 0; marks = no_marks })
+unfolding refusal_number
+called-beside x n is = ap {B = Answer} (λ (g : Result ℕ Refused). record { refusal = refusal_number g; number = 0; says = false; called = result_unwrap_or g 0; marks = no_marks }) is ∙ go x
+  where
+    go : (x : Result Unit Refused) → ◌≡◌ {A = Answer} (record { refusal = refusal_number (result_and x (Ok n)); number = 0; says = false; called = result_unwrap_or (result_and x (Ok n)) 0; marks = no_marks })
+        (record { refusal = refusal_number x; number = 0; says = false; called = if refusal_number x == 0 then n else 0; marks = no_marks })
+    go (Ok u) = refl
+    go (Err r) = rw (ne_eqb (number_of r) 0 (number-above r)) refl
 
 abbrev turned_card : Card → (registered : List ℕ) → held-round.Round → Card
 turned_card c g k =
@@ -99,17 +118,23 @@ module _ (c : Card) (left : Left c) where
     after_is = after-with m next e refl tables-are round_is
 
     -- the one called
-    called_is : (k : ℕ) → r ≡ k → ◌≡◌ {A = Answer} (record { refusal = k; number = 0; says = false; called = n; marks = no_marks }) (stored_answer (outcome k m next).answer)
+    called_is : (k : ℕ) → ◌≡◌ {A = Answer} (record { refusal = k; number = 0; says = false; called = if k == 0 then n else 0; marks = no_marks }) (stored_answer (outcome k m next).answer)
     unfolding outcome answer stored_answer empty?
-    called_is zero z = go it
+    called_is zero = go it
       where
         go : Turn c left n → ◌≡◌ {A = Answer} (record { refusal = 0; number = 0; says = false; called = n; marks = no_marks }) (stored_answer (calling l))
         go (inl (p, s)) = rw (p, s) refl
         go (inr (p, s, h)) = rw p refl
-    called_is (suc k) z = go it
+    called_is (suc k) = rw (ne_eqb (suc k) 0 (λ z. omega arith)) refl
+
+    -- where it is refused, nobody is named
+    only-accepted : (k : ℕ) → r ≡ k → n ≡ (if k == 0 then n else 0)
+    unfolding empty?
+    only-accepted zero z = refl
+    only-accepted (suc k) z = rw (ne_eqb (suc k) 0 (λ z. omega arith)) (go it)
       where
-        go : Turn c left n → ◌≡◌ {A = Answer} (record { refusal = suc k; number = 0; says = false; called = n; marks = no_marks }) (record { refusal = suc k; number = 0; says = false; called = 0; marks = no_marks })
-        go (inl (p, s)) = rw s refl
+        go : Turn c left n → n ≡ 0
+        go (inl (p, s)) = s
         go (inr (p, s, h)) = clashing (ap empty? (sym p ∙ (refused_none (λ y. omega (arith, z))).0)) refl
 
     -- the round
@@ -199,6 +224,27 @@ module _ (c : Card) (left : Left c) where
         ∙ ap stored (sym after_is)
 
   -- NEXT, by what the parts of the code say
+  pub tells-turn
+      : {r still who n spent rest : ℕ} {k : held-round.Round} {b : Answer}
+      → r ≡ first_holding (line 21 (not c.round.«open») ∷ [])
+      → IsForOn (view_rows c.rows) c.registered c.bank.owner c.control c.polls (view_arrival c.round.arrived) still
+      → who ≡ set_both (set_both c.selectable still) c.round.waiting
+      → n ≡ first (has? who) 0 (take c.roll.count c.roll.order)
+      → k ≡ (if n == 0 then stored_round no_round else leaving c.round n)
+      → spent ≡ (if by_settled (view_arrival c.round.arrived) then single n else 0)
+      → rest ≡ set_without (get_or c.registered handler_available 0) spent
+      → b ≡ record { refusal = r; number = 0; says = false; called = if r == 0 then n else 0; marks = no_marks }
+      → ◌≡◌ {A = Reply} (record { card = turned_card c (set c.registered handler_available rest) k; answer = b }) (replied (step m next))
+  unfolding view view_round refusal lines step
+  tells-turn {r} {still} {n = n} {k = k} e f w x y s z h =
+      let for-it = f t (left-sound c left).tables refl (registered-form c left) refl refl (polls-form c left) in
+      let it = turn c left for-it (x ∙ ap (λ (j : ℕ). first (has? j) 0 (take c.roll.count c.roll.order)) w) in
+      replies (step m next)
+      (ap (λ (g : List ℕ). turned_card c g k) (ap (set c.registered handler_available) (z ∙ ap (set_without (get_or c.registered handler_available 0)) s))
+      ∙ card-is-left e it (left-round e it y))
+      (h ∙ called_is e it r ∙ ap (λ (j : ℕ). stored_answer (outcome j m next).answer) e)
+
+  -- the same where the one called is said of a refused call too
   pub takes-turn
       : {r still who n spent rest : ℕ} {k : held-round.Round} {b : Answer}
       → r ≡ first_holding (line 21 (not c.round.«open») ∷ [])
@@ -214,7 +260,4 @@ module _ (c : Card) (left : Left c) where
   takes-turn {r} {still} {n = n} {k = k} e f w x y s z h =
       let for-it = f t (left-sound c left).tables refl (registered-form c left) refl refl (polls-form c left) in
       let it = turn c left for-it (x ∙ ap (λ (j : ℕ). first (has? j) 0 (take c.roll.count c.roll.order)) w) in
-      replies (step m next)
-      (ap (λ (g : List ℕ). turned_card c g k) (ap (set c.registered handler_available) (z ∙ ap (set_without (get_or c.registered handler_available 0)) s))
-      ∙ card-is-left e it (left-round e it y))
-      (h ∙ called_is e it r refl ∙ ap (λ (j : ℕ). stored_answer (outcome j m next).answer) e)
+      tells-turn e f w x y s z (h ∙ ap {B = Answer} (λ (j : ℕ). record { refusal = r; number = 0; says = false; called = j; marks = no_marks }) (only-accepted e it r refl))

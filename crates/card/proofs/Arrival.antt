@@ -7,17 +7,18 @@ use mathlib.Core.Bool.{Bool, true}
 use mathlib.Core.List.{List, [], ◌∷◌}
 use lib.ListN.{get_or}
 use borrow.Author.Tests.{ne_eqb}
-use Rattle.std.specs.Prelude.{if◌then◌else◌, ◌==◌}
+use Rattle.std.specs.Prelude.{Result, if◌then◌else◌, ◌==◌}
 use Rattle.lists.proofs.Times.{if-same}
 use Rattle.sets.specs.Sets.{set_both}
 use Rattle.rules.specs.declared.Answer.{Answer}
 use Rattle.rules.specs.declared.Arrived.{Arrived}
+use Rattle.rules.specs.declared.Malformed.{Malformed}
 use Rattle.rules.specs.declared.Envelope.{Envelope}
 use Rattle.rules.specs.declared.Marks.{Marks}
 use Rattle.rules.specs.declared.Roll.{Roll}
 use Rattle.rules.specs.declared.Round as held
 use Rattle.rules.specs.Holds.{Desk, Model}
-use Rattle.rules.specs.Held.{view_rows, view_desk, stored_answer, stored_arrival}
+use Rattle.rules.specs.Held.{view_rows, view_desk, view_arrival, stored_answer, stored_arrival}
 use Rattle.rules.specs.Events.{handler_available}
 use Rattle.rules.specs.Envelopes.{envelope_of, bad_envelope}
 use Rattle.rules.specs.Arrivals.{arrival_of, settled_arrival, envelope_marks, other_marks}
@@ -27,10 +28,11 @@ use Rattle.rules.specs.Rounds.{arrived_with, opened}
 use Rattle.rules.specs.Step.{step, outcome, tables_after, round_after, desk_after, arrival_desk, answer, arrival_answer}
 use Rattle.rules.proofs.DueMarks.{marked-same}
 use Rattle.polling.specs.Polls.{polling_set}
-use Rattle.arrivals.specs.Whom.{IsFor, IsForEnvelope}
+use Rattle.arrivals.specs.Whom.{IsFor, IsForOn}
 use Rattle.arrivals.specs.Rounds.{view_round, stored_round}
 use Rattle.arrivals.specs.Answers.{answering}
-use Rattle.arrivals.proofs.IsFor.{for-event, status-for}
+use Rattle.arrivals.proofs.IsFor.{for_as, for-event, status-for}
+use Rattle.arrivals.proofs.Rounds.{arrival-back}
 use Rattle.arrivals.proofs.Waiting.{waiting-opened}
 use Rattle.card.specs.declared.Card.{Card}
 use Rattle.card.specs.declared.Reply.{Reply}
@@ -88,12 +90,12 @@ module _ (c : Card) (left : Left c) (y : ArrivalCall) {r : ℕ} (e : r ≡ refus
 -- ENVELOPE, by what the parts of the code say
 module _ (c : Card) (left : Left c) (bytes : List ℕ) where
   pub comes
-      : {e : Envelope} {bad : Bool} {a : Arrived} {r w : ℕ} {q : held.Round} {marks : Marks} {b : Answer}
+      : {e : Result Envelope Malformed} {bad : Bool} {a : Arrived} {r w : ℕ} {q : held.Round} {marks : Marks} {b : Answer}
       → e ≡ envelope_of bytes
       → bad ≡ bad_envelope e
       → r ≡ first_holding (line 1 bad ∷ [])
       → a ≡ stored_arrival (arrival_of e)
-      → IsForEnvelope (view_rows c.rows) c.registered c.bank.owner c.control a w
+      → IsForOn (view_rows c.rows) c.registered c.bank.owner c.control c.polls (view_arrival a) w
       → q ≡ opened_by r c.round a w c.roll.present
       → marks ≡ envelope_marks c.desk.outstanding e
       → b ≡ answering r marks
@@ -102,8 +104,9 @@ module _ (c : Card) (left : Left c) (bytes : List ℕ) where
   comes {e} {r = r} i x n k f p g h =
       let t = (view c).tables in
       let is : r ≡ refusal (view c) (arrival (envelope bytes)) = n ∙ ap (λ (b : Bool). first_holding (line 1 b ∷ [])) (x ∙ ap bad_envelope i) in
-      let kept = k ∙ ap (λ (e : Envelope). stored_arrival (arrival_of e)) i in
-      let for-it = f (envelope_of bytes) kept c.polls t (left-sound c left).tables refl (registered-form c left) refl refl (polls-form c left) in
+      let kept = k ∙ ap (λ (e : Result Envelope Malformed). stored_arrival (arrival_of e)) i in
+      let arrived = sym (arrival-back (arrival_of (envelope_of bytes))) ∙ ap view_arrival (sym kept) in
+      let for-it = for_as t arrived (f t (left-sound c left).tables refl (registered-form c left) refl refl (polls-form c left)) in
       replies (step (view c) (arrival (envelope bytes)))
       (round-left c left (envelope bytes) is for-it kept p refl)
       (answers c left (envelope bytes) is (envelope_marks c.desk.outstanding (envelope_of bytes)) refl (g ∙ ap (envelope_marks c.desk.outstanding) i) h)

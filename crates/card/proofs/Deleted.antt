@@ -16,6 +16,7 @@ use Rattle.rules.specs.declared.Roll.{Roll}
 use Rattle.rules.specs.declared.Rows.{Rows}
 use Rattle.rules.specs.declared.Bank.{Bank}
 use Rattle.rules.specs.declared.Answer.{Answer}
+use Rattle.rules.specs.declared.Due.{Due}
 use Rattle.rules.specs.Holds.{Applet, Bounds, Tables, Model, document}
 use Rattle.rules.specs.Held.{view_rows, stored_rows, stored_answer}
 use Rattle.rules.specs.Applets.{present, forget}
@@ -42,6 +43,7 @@ use Rattle.card.specs.declared.Card.{Card}
 use Rattle.card.specs.declared.Reply.{Reply}
 use Rattle.card.specs.View.{view, stored, Left}
 use Rattle.card.specs.Replies.{replied}
+use Rattle.card.specs.Turns.{polling_of}
 use Rattle.card.proofs.Left.{left-sound, left-bounds}
 use Rattle.card.proofs.Marks.{with_due, MenuMark, EventsMark, PollingMarks, all-desk}
 use Rattle.card.proofs.Polled.{Marks-then}
@@ -94,13 +96,13 @@ module _ (c : Card) (left : Left c) (n : ℕ) (there : has? c.roll.present n ≡
   unfolding admin_tables
   registered-next = ap (map (λ (s : ℕ). set_without s (single n))) (registered-form c left) ∙ all-less t.applets n
 
-  made-next : table_with c.made n 0 ≡ made_table u.applets
+  made-next : table_with 0 c.made n 0 ≡ made_table u.applets
   unfolding admin_tables
-  made-next = ap (λ (k : List ℕ). table_with k n 0) (made-form c left) ∙ made-less t.applets n
+  made-next = ap (λ (k : List ℕ). table_with 0 k n 0) (made-form c left) ∙ made-less t.applets n
 
-  polls-next : table_with c.polls n 0 ≡ poll_table u.applets
+  polls-next : table_with 0 c.polls n 0 ≡ poll_table u.applets
   unfolding admin_tables
-  polls-next = ap (λ (k : List ℕ). table_with k n 0) (polls-form c left) ∙ poll-less t.applets n
+  polls-next = ap (λ (k : List ℕ). table_with 0 k n 0) (polls-form c left) ∙ poll-less t.applets n
 
   -- the marks
   polling-differs
@@ -111,7 +113,7 @@ module _ (c : Card) (left : Left c) (n : ℕ) (there : has? c.roll.present n ≡
       Marks-then c left u (admin-sound m (delete n) none-refused sound) bounds-same polls-next selectable-next
       (e ∙ ap (polling_after c.desk.session c.desk.due.interval c.desk.due.off (interval_of c.polls c.selectable)) (sym (unset-request c.polls is n 0 (left_out c.selectable n))))
 
-  menu-differs : (true && (not (beq (has? c.selectable n) false) && has_enabled_row n (view_rows c.rows))) ≡ menu_changes t u
+  menu-differs : (not (beq (has? c.selectable n) false) && has_enabled_row n (view_rows c.rows)) ≡ menu_changes t u
   unfolding view
   menu-differs =
       ap (λ (b : Bool). b && has_enabled_row n t.rows) (same (has? c.selectable n) ∙ selectable-there c left n here)
@@ -134,30 +136,28 @@ module _ (c : Card) (left : Left c) (n : ℕ) (there : has? c.roll.present n ≡
           ∙ ap₂ meets (sym (set_is c left e (omega arith))) (sym (turned-without c.selectable n))
 
   pub removes
-      : {s control w : ℕ} {g f j : List ℕ} {menu events x y : Bool} {p : Polling} {roll : Roll} {rows : Rows} {bank : Bank}
+      : {s control w : ℕ} {g f j : List ℕ} {due : Due} {roll : Roll} {rows : Rows} {bank : Bank}
+      → MenuMark c.desk (not (beq (has? c.selectable n) false) && has_enabled_row n (view_rows c.rows)) due.menu
+      → EventsMark c.desk (any_code (code_turns c.registered c.selectable is)) due.events
+      → polling_of due ≡ polling_after c.desk.session c.desk.due.interval c.desk.due.off (interval_of c.polls c.selectable) (interval_of c.polls is)
       → s ≡ is
-      → menu ≡ (true && (not (beq (has? c.selectable n) false) && has_enabled_row n (view_rows c.rows)))
-      → events ≡ any_code (code_turns c.registered c.selectable s)
-      → p ≡ polling_after c.desk.session c.desk.due.interval c.desk.due.off (interval_of c.polls c.selectable) (interval_of c.polls is)
-      → MenuMark c.desk menu x
-      → EventsMark c.desk events y
       → roll ≡ roll_without c.roll n
       → g ≡ map (λ (s : ℕ). set_without s (single n)) c.registered
-      → f ≡ table_with c.made n 0
-      → j ≡ table_with c.polls n 0
+      → f ≡ table_with 0 c.made n 0
+      → j ≡ table_with 0 c.polls n 0
       → bank.owner ≡ without_timers n c.bank.owner
       → control ≡ forget n c.control
       → rows ≡ stored_rows (without_rows n (view_rows c.rows))
       → w ≡ switched_set c.round.waiting n false
       → ◌≡◌ {A = Card}
-      (record { roll = roll; selectable = s; registered = g; made = f; polls = j; control = control; rows = rows; bank = bank; desk = with_due c.desk x y p.interval p.off; round = record { «open» = c.round.«open»; arrived = c.round.arrived; waiting = w } })
+      (record { roll = roll; selectable = s; registered = g; made = f; polls = j; control = control; rows = rows; bank = bank; desk = with_due c.desk due; round = record { «open» = c.round.«open»; arrived = c.round.arrived; waiting = w } })
       (stored (record { tables = u; desk = marked t u m.desk; round = without n m.round }))
-  removes ss mv ev pv mx my rl rg md pl bk ct rs wt =
+  removes menu events polling ss rl rg md pl bk ct rs wt =
       card-is (record { tables = u; desk = marked t u m.desk; round = without n m.round })
       (ap (λ (w : ℕ). record { «open» = c.round.«open»; arrived = c.round.arrived; waiting = w }) wt ∙ round-less c left n)
       (rl ∙ roll-next) (ss ∙ selectable-next) (rg ∙ registered-next) (md ∙ made-next) (pl ∙ polls-next)
       (ct ∙ control-next) (rs ∙ rows_next) (bk ∙ timers-next)
-      (all-desk c left u (sym (mv ∙ menu-differs)) (sym (ev ∙ ap (λ (k : ℕ). any_code (code_turns c.registered c.selectable k)) ss ∙ events-differ)) mx my (polling-differs pv))
+      (all-desk c left u (sym menu-differs) (sym events-differ) menu events (polling-differs polling))
     where
       control-next : forget n c.control ≡ u.control
       control-next = unfold admin_tables view in refl

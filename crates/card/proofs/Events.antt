@@ -4,7 +4,7 @@ use Prim.Native.Nat.{ℕ, ◌≤◌, ◌<◌}
 use native.Mathlib.Omega.{arith}
 use mathlib.Core.Path.{◌≡◌, refl, sym, ap, subst, ◌∙◌}
 use mathlib.Core.Bool.{Bool, true, false, not, ◌&&◌}
-use mathlib.Core.List.{List, [], ◌∷◌}
+use mathlib.Core.List.{List}
 use lib.IntN.{ℤ}
 use lib.ListN.{length, get_or, set, length-set}
 use lib.Seq.{get_or-set_same, get_or-set_other}
@@ -22,11 +22,11 @@ use Rattle.rules.specs.declared.Kind.{Kind}
 use Rattle.rules.specs.declared.Kind.TheVariants.{Event}
 use Rattle.rules.specs.declared.Answer.{Answer}
 use Rattle.rules.specs.Holds.{Applet, Tables, Model, with_applets, with_control, with_event}
-use Rattle.rules.specs.Events.{kind_of, call_control, is_control}
+use Rattle.rules.specs.Events.{kind_of, call_control}
 use Rattle.rules.specs.Applets.{has_number, present, applet, forget, register, with_registration, owned_by_another}
-use Rattle.rules.specs.Calls.{EventCall, event, set_event, clear_event, accepted, refused_with}
+use Rattle.rules.specs.Calls.{EventCall, event, accepted, refused_with}
 use Rattle.rules.specs.Desk.{events_change, marked}
-use Rattle.rules.specs.Refusals.{line, lines, absent, event_lines, refusal}
+use Rattle.rules.specs.Refusals.{lines, absent, event_lines, refusal}
 use Rattle.rules.specs.Step.{step, tables_after, event_tables, desk_after, answer, event_answer, round_after}
 use Rattle.events.specs.Place.{place_of}
 use Rattle.events.proofs.Places.{place-within}
@@ -37,13 +37,14 @@ use Rattle.applets.specs.ByNumber.{at, roll_of, selectable_set, registered_set, 
 use Rattle.applets.proofs.Numbers.{at-change, roll-kept, selectable-kept, registered-kept, made_kept, poll-kept}
 use Rattle.events_shown.specs.Turns.{is_download, events_turn}
 use Rattle.events_shown.proofs.Quiet.{control-events}
-use Rattle.refusals.proofs.Calls.{event_refusal, event-known}
+use Rattle.refusals.proofs.Calls.{event-known}
 use Rattle.card.specs.declared.Card.{Card}
 use Rattle.card.specs.declared.Reply.{Reply}
 use Rattle.card.specs.View.{view, stored, Left}
 use Rattle.card.specs.Replies.{replied}
 use Rattle.rules.specs.Held.{stored_answer}
-use Rattle.card.specs.Turns.{set_after, owner_after}
+use Rattle.card.specs.Switches.{registering}
+use Rattle.card.specs.Turns.{turn_refusal, set_after, owner_after}
 use Rattle.card.proofs.Left.{left-sound, left-bounds}
 use Rattle.card.proofs.Marks.{Turns, with_events_due, EventsMark, events-desk}
 use Rattle.card.proofs.Turned.{nothing-turns, registration-turns-events}
@@ -51,15 +52,9 @@ use Rattle.card.proofs.Present.{present-by, found-by}
 use Rattle.card.proofs.Listeners.{set_is, event-by}
 use Rattle.card.proofs.Replied.{tables_by, after-by, plain-reply, next-card, selectable-form, registered-form, control-form, Still}
 
--- set event, or clear event, and its refusal
-abbrev turning : (applet : ℕ) (value : ℤ) → Bool → EventCall
-turning n v on = if on then set_event n v else clear_event n v
-
-abbrev turn_refusal : (there : Bool) → Kind → (control applet : ℕ) → Bool → ℕ
-turn_refusal there k control n on = event_refusal there k (if on then line 9 (is_control k && (not (control == 0) && not (control == n))) ∷ [] else [])
-
+-- their refusal
 turn-refusal-is : (m : Model) (n : ℕ) (v : ℤ) (on : Bool) {there : Bool} {k : Kind} → there ≡ not (absent m.tables n) → k ≡ kind_of v
-    → turn_refusal there k m.tables.control n on ≡ refusal m (event (turning n v on))
+    → turn_refusal there k m.tables.control n on ≡ refusal m (event (registering on n v))
 unfolding refusal lines event_lines owned_by_another
 turn-refusal-is m n v true e f = rw (e, ← not-not (absent m.tables n), f) refl
 turn-refusal-is m n v false e f = rw (e, ← not-not (absent m.tables n), f) refl
@@ -178,7 +173,7 @@ module _
     {p : ℕ} (at_place : p ≡ place_of k)
   where
     abbrev call : EventCall
-    call = turning n v on
+    call = registering on n v
 
     abbrev m : Model
     m = view c
@@ -189,7 +184,7 @@ module _
     refusal_is : r ≡ refusal m (event call)
     refusal_is = refused ∙ ap (λ (o : ℕ). turn_refusal there k o n on) (control-form c left) ∙ turn-refusal-is m n v on (found-by c left n found) kind
 
-    plain : (b : Bool) → answer m (event (turning n v b)) ≡ accepted
+    plain : (b : Bool) → answer m (event (registering b n v)) ≡ accepted
     unfolding answer event_answer
     plain true = refl
     plain false = refl
@@ -199,7 +194,7 @@ module _
     still = (refl, refl)
 
     -- the tables that an accepted call leaves
-    registers : (b : Bool) → event_tables m.tables (turning n v b) ≡ register m.tables n (kind_of v) b
+    registers : (b : Bool) → event_tables m.tables (registering b n v) ≡ register m.tables n (kind_of v) b
     unfolding event_tables
     registers true = refl
     registers false = refl

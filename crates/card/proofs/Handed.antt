@@ -42,7 +42,7 @@ use Rattle.card.proofs.Left.{left-form, left-sound, left-bounds, tidy-rows}
 use Rattle.card.proofs.Replied.{replies, selectable-form, registered-form, desk-form}
 use Rattle.card.proofs.Sends.{with_desk, desk-card}
 use Rattle.card.proofs.Polled.{interval-now}
-use Rattle.card.proofs.Written.{Handed, by_off, in-front, unwritten}
+use Rattle.card.proofs.Written.{Handed, handed_by, in-front, unwritten}
 
 pub title-most : (n : ℕ) (l : List ℕ) → n ≤ 20 → length (take n l) ≤ 20
 title-most n l h = omega (arith, length-take n l)
@@ -117,7 +117,7 @@ module _ (c : Card) (left : Left c) where
 
   -- by what is handed out
   abbrev pub written_by : Due → List ℕ
-  written_by f = by_off f menu_now events_now interval_now off_bytes
+  written_by f = handed_by f menu_now events_now interval_now off_bytes
 
   menu-is : menu_now ≡ menu_bytes (menu_of m.desk.title (shown_menu m.tables))
   unfolding view view_desk
@@ -139,7 +139,7 @@ module _ (c : Card) (left : Left c) where
   due-is = rw (menu-is, events-are, interval-is) (go c.desk.due.menu c.desk.due.events c.desk.due.interval c.desk.due.off _ _ _ ∙ sym (first-due m.desk m.tables))
     where
       go : (x v i o : Bool) (k l n : List ℕ)
-          → by_off (first_due true (record { menu = x; events = v; interval = i; off = o })) k l n off_bytes
+          → handed_by (first_due true (record { menu = x; events = v; interval = i; off = o })) k l n off_bytes
           ≡ (if x then k else if v then l else if i then n else if o then off_bytes else [])
       go true v i o k l n = refl
       go false true i o k l n = refl

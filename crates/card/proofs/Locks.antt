@@ -13,10 +13,11 @@ use Rattle.lists.proofs.Tables.{table-alike}
 use Rattle.sets.specs.Sets.{has?, meets, switched_set}
 use Rattle.sets.proofs.Bits.{set-alike}
 use Rattle.rules.specs.declared.Answer.{Answer}
+use Rattle.rules.specs.declared.Due.{Due}
 use Rattle.rules.specs.Holds.{Applet, Tables, Model, with_applets, with_selectable}
 use Rattle.rules.specs.Held.{view_rows, stored_answer}
 use Rattle.rules.specs.Applets.{has_number, present, applet}
-use Rattle.rules.specs.Calls.{AdminCall, Outcome, admin, lock, unlock, accepted, refused_with}
+use Rattle.rules.specs.Calls.{Outcome, admin, accepted, refused_with}
 use Rattle.rules.specs.Desk.{menu_changes, events_change}
 use Rattle.rules.specs.Refusals.{lines, first_holding, absent, admin_lines, refusal}
 use Rattle.rules.specs.Step.{step, outcome, tables_after, admin_tables, desk_after, answer, round_after, admin_round}
@@ -33,16 +34,14 @@ use Rattle.card.specs.declared.Card.{Card}
 use Rattle.card.specs.declared.Reply.{Reply}
 use Rattle.card.specs.View.{view, stored, Left}
 use Rattle.card.specs.Replies.{replied}
+use Rattle.card.specs.Switches.{locking}
+use Rattle.card.specs.Turns.{polling_of}
 use Rattle.card.proofs.Left.{left-form, left-sound, left-bounds}
 use Rattle.card.proofs.Replied.{tables_by, after-by, plain-reply, next-card, registered-form, polls-form, control-form, Still}
 use Rattle.card.proofs.Marks.{with_due, MenuMark, EventsMark, PollingMarks, all-desk}
 use Rattle.card.proofs.Polled.{Marks-then}
 use Rattle.card.proofs.Present.{present-by, gone-by, selectable-has, selectable-there}
 use Rattle.card.proofs.Listeners.{set_is, codes-by}
-
--- lock and unlock as one call: the applet becomes selectable, or locked
-abbrev locking : (selectable : Bool) (applet : ℕ) → AdminCall
-locking on n = if on then unlock n else lock n
 
 module _ (c : Card) (left : Left c) (n : ℕ) (on : Bool) (there : present (view c).tables n ≡ true) where
   abbrev t : Tables
@@ -140,26 +139,22 @@ module _ (c : Card) (left : Left c) (n : ℕ) (on : Bool) {there : Bool} (found 
 
   -- the lock turns
   pub lock-turned
-      : {k : Card} {s : ℕ} {menu events x y : Bool} {p : Polling} {a : Answer}
+      : {k : Card} {s : ℕ} {d : Due} {a : Answer}
       → (there && not (beq (has? c.selectable n) on)) ≡ true
       → s ≡ switched_set c.selectable n on
-      → menu ≡ (there && (not (beq (has? c.selectable n) on) && has_enabled_row n (view_rows c.rows)))
-      → events ≡ any_code (code_turns c.registered c.selectable s)
-      → p ≡ polling_after c.desk.session c.desk.due.interval c.desk.due.off (interval_of c.polls c.selectable) (interval_of c.polls (switched_set c.selectable n on))
-      → MenuMark c.desk menu x
-      → EventsMark c.desk events y
-      → k ≡ record { roll = c.roll; selectable = s; registered = c.registered; made = c.made; polls = c.polls; control = c.control; rows = c.rows; bank = c.bank; desk = with_due c.desk x y p.interval p.off; round = c.round }
+      → MenuMark c.desk (not (beq (has? c.selectable n) on) && has_enabled_row n (view_rows c.rows)) d.menu
+      → EventsMark c.desk (any_code (code_turns c.registered c.selectable (switched_set c.selectable n on))) d.events
+      → polling_of d ≡ polling_after c.desk.session c.desk.due.interval c.desk.due.off (interval_of c.polls c.selectable) (interval_of c.polls (switched_set c.selectable n on))
+      → k ≡ record { roll = c.roll; selectable = s; registered = c.registered; made = c.made; polls = c.polls; control = c.control; rows = c.rows; bank = c.bank; desk = with_due c.desk d; round = c.round }
       → a ≡ stored_answer (refused_with r)
       → Says k a
   unfolding tables_after present
-  lock-turned turns sets mv ev pv mx my is e =
+  lock-turned turns sets menu events polling is e =
       let h = and_left there (not (beq (has? c.selectable n) on)) turns in
       let z : r ≡ 0 = refused ∙ rw h refl in
       let is-here : present m.tables n ≡ true = sym (found ∙ present-by c left n) ∙ h in
       let l = m.tables.applets in
       let u = with_applets m.tables (change (has_number n) (with_selectable on) l) in
-      let menu-is = mv ∙ ap (λ (b : Bool). b && (not (beq (has? c.selectable n) on) && has_enabled_row n (view_rows c.rows))) h ∙ menu-differs c left n on is-here in
-      let events-are = ev ∙ ap (λ (k : ℕ). any_code (code_turns c.registered c.selectable k)) sets ∙ codes-differ c left n on is-here in
       plain-reply m (admin (locking on n)) refusal_is plain
       (is
       ∙ next-card c left u
@@ -170,7 +165,7 @@ module _ (c : Card) (left : Left c) (n : ℕ) (on : Bool) {there : Bool} (found 
       (sets ∙ selectable-turned c left n on is-here)
       (registered-form c left ∙ table-alike 20 _ _ (λ e k. sym (registered-same c left n on is-here e)))
       (control-form c left)
-      (all-desk c left u (sym menu-is) (sym events-are) mx my (polling-differs c left n on is-here pv))
+      (all-desk c left u (sym (menu-differs c left n on is-here)) (sym (codes-differ c left n on is-here)) menu events (polling-differs c left n on is-here polling))
       ∙ ap stored (sym (after-by m (admin (locking on n)) refusal_is still (ap (tables_by m (admin (locking on n))) z ∙ tables-are on))))
       e
 

@@ -13,6 +13,7 @@ use Rattle.polling.specs.declared.Polling.{Polling}
 use Rattle.polling.specs.Polls.{polling_after}
 use Rattle.card.specs.declared.Card.{Card}
 use Rattle.card.specs.View.{view, Left}
+use Rattle.card.specs.Turns.{polling_of}
 use Rattle.card.proofs.Replied.{desk-form}
 
 -- a call that leaves the tables u turns the menu, or the event list, or does not, and leaves the interval
@@ -22,25 +23,17 @@ pub record Turns (t u : Tables) (menu events : Bool) : Type 0 where
   pub interval-stays : interval_changes t u ≡ false
 
 -- the desk as it is held, with these marks
-abbrev pub with_due : held.Desk → (menu events interval off : Bool) → held.Desk
-with_due d menu events interval off =
-    record {
-      due = record { menu = menu; events = events; interval = interval; off = off };
-      session = d.session;
-      outstanding = d.outstanding;
-      title_len = d.title_len;
-      title = d.title;
-      profile = d.profile;
-    }
+abbrev pub with_due : held.Desk → Due → held.Desk
+with_due d due = record { due = due; session = d.session; outstanding = d.outstanding; title_len = d.title_len; title = d.title; profile = d.profile }
 
 abbrev pub with_menu_due : held.Desk → Bool → held.Desk
-with_menu_due d b = with_due d b d.due.events d.due.interval d.due.off
+with_menu_due d b = with_due d (record { menu = b; events = d.due.events; interval = d.due.interval; off = d.due.off })
 
 abbrev pub with_events_due : held.Desk → Bool → held.Desk
-with_events_due d b = with_due d d.due.menu b d.due.interval d.due.off
+with_events_due d b = with_due d (record { menu = d.due.menu; events = b; interval = d.due.interval; off = d.due.off })
 
 abbrev pub with_polling_due : held.Desk → Polling → held.Desk
-with_polling_due d p = with_due d d.due.menu d.due.events p.interval p.off
+with_polling_due d p = with_due d (record { menu = d.due.menu; events = d.due.events; interval = p.interval; off = p.off })
 
 -- the mark after a call that turns what it is for, or does not
 abbrev pub MenuMark : held.Desk → (turns due : Bool) → Type 0
@@ -96,13 +89,13 @@ due-desk
     → MenuMark k menu x
     → EventsMark k events y
     → PollingMarks k t u p
-    → with_due k x y p.interval p.off ≡ stored_desk (marked t u d)
+    → with_due k (record { menu = x; events = y; interval = p.interval; off = p.off }) ≡ stored_desk (marked t u d)
 unfolding stored_desk marked due_after interval_changes is_polled
 due-desk t u d {menu = menu} {events = events} e turns-menu turns-events x y z =
     rw (x, y, z, e, turns-menu, turns-events) (go d.session (interval t == interval u) (interval u == 0))
   where
     go : (s same none : Bool)
-        → with_due (stored_desk d) (s && menu || d.due.menu) (s && events || d.due.events) (polling_by d s same none).interval (polling_by d s same none).off
+        → with_due (stored_desk d) (record { menu = s && menu || d.due.menu; events = s && events || d.due.events; interval = (polling_by d s same none).interval; off = (polling_by d s same none).off })
         ≡ stored_desk (if s then with_marks d d.outstanding (due_by d menu events same none) else d)
     go true true none = rw (or_turned menu d.due.menu, or_turned events d.due.events) refl
     go true false true = rw (or_turned menu d.due.menu, or_turned events d.due.events) refl
@@ -118,13 +111,13 @@ module _ (c : Card) (left : Left c) (u : Tables) where
   Marked k = k ≡ stored_desk (marked t u (view c).desk)
 
   pub all-desk
-      : {menu events x y : Bool} {p : Polling}
+      : {menu events : Bool} {due : Due}
       → menu_changes t u ≡ menu
       → events_change t u ≡ events
-      → MenuMark c.desk menu x
-      → EventsMark c.desk events y
-      → PollingMarks c.desk t u p
-      → Marked (with_due c.desk x y p.interval p.off)
+      → MenuMark c.desk menu due.menu
+      → EventsMark c.desk events due.events
+      → PollingMarks c.desk t u (polling_of due)
+      → Marked (with_due c.desk due)
   all-desk = due-desk t u (view c).desk (desk-form c left)
 
   pub menu-desk : {menu x : Bool} → Turns t u menu false → MenuMark c.desk menu x → Marked (with_menu_due c.desk x)

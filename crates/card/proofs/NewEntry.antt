@@ -117,7 +117,7 @@ module _ (c : Card) (left : Left c) (n : ℕ) (help : Bool) (text : List ℕ) {t
           → a ≡ stored_answer (if r == 0 then numbered i else refused_with r)
           → p ≡ get_or g.pairs k no_pair
           → e ≡ entered_by p n help text (view_rows c.rows)
-          → more ≡ table_with c.made n (k + 1)
+          → more ≡ table_with 0 c.made n (k + 1)
           → turns ≡ has? c.selectable n
           → MenuMark c.desk turns y
           → s ≡ with_entries c more e.rows y
@@ -138,7 +138,7 @@ module _ (c : Card) (left : Left c) (n : ℕ) (help : Bool) (text : List ℕ) {t
           (λ e. registered-kept l n with_one_more here (λ x. refl) e (λ x. refl))
           (poll-kept l n with_one_more here (λ x. refl) (λ x. refl))
           refl refl
-          (mm ∙ ap₂ (λ (h : List ℕ) (m : ℕ). table_with h n m) (made-form c left) one ∙ made_more l n here)
+          (mm ∙ ap₂ (λ (h : List ℕ) (m : ℕ). table_with 0 h n m) (made-form c left) one ∙ made_more l n here)
           (ap (λ (h : Added). h.rows) both)
           (subst (λ (b : Bool). Turns t u b false) (sym (tu ∙ selectable-there c left n here)) (new-entry-turns-menu t sound.numbers_apart n here help text))
           y

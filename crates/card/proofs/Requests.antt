@@ -82,12 +82,12 @@ module _ (c : Card) (left : Left c) (n : ℕ) (d : ℤ) {there : Bool} (found : 
       unfolding lines event_lines Every
       few = seconds-few d (runs.accepted m call (sym refusal_is ∙ z)).1.0
 
-      polls-next : table_with c.polls n s ≡ poll_table u.applets
-      polls-next = ap (λ (k : List ℕ). table_with k n s) (polls-form c left) ∙ poll-changed l n (unfold present in here) s
+      polls-next : table_with 0 c.polls n s ≡ poll_table u.applets
+      polls-next = ap (λ (k : List ℕ). table_with 0 k n s) (polls-form c left) ∙ poll-changed l n (unfold present in here) s
 
       requested-card
           : {next : List ℕ} {p : Polling}
-          → next ≡ table_with c.polls n s
+          → next ≡ table_with 0 c.polls n s
           → p ≡ polling_after c.desk.session c.desk.due.interval c.desk.due.off (interval_of c.polls c.selectable) (interval_of next c.selectable)
           → with_requests c next p ≡ stored (record { tables = u; desk = marked t u m.desk; round = m.round })
       unfolding present
@@ -108,8 +108,8 @@ module _ (c : Card) (left : Left c) (n : ℕ) (d : ℤ) {there : Bool} (found : 
       pub takes
           : {k : Card} {seconds : ℕ} {next : List ℕ} {p : Polling} {a : Answer}
           → seconds ≡ seconds_of d
-          → next ≡ table_with c.polls n seconds
-          → p ≡ polling_after c.desk.session c.desk.due.interval c.desk.due.off (interval_of c.polls c.selectable) (interval_of (table_with c.polls n seconds) c.selectable)
+          → next ≡ table_with 0 c.polls n seconds
+          → p ≡ polling_after c.desk.session c.desk.due.interval c.desk.due.off (interval_of c.polls c.selectable) (interval_of (table_with 0 c.polls n seconds) c.selectable)
           → k ≡ with_requests c next p
           → a ≡ stored_answer (refused_with r)
           → Says k a
@@ -117,7 +117,7 @@ module _ (c : Card) (left : Left c) (n : ℕ) (d : ℤ) {there : Bool} (found : 
       takes so e p is says =
           plain-reply m call refusal_is plain
           (is
-          ∙ requested-card (e ∙ ap (table_with c.polls n) so) (p ∙ rw e refl)
+          ∙ requested-card (e ∙ ap (table_with 0 c.polls n) so) (p ∙ rw e refl)
           ∙ ap stored (sym (after-by m call refusal_is (refl, refl) (ap (tables_by m call) z))))
           says
 

@@ -6,8 +6,9 @@ use mathlib.Core.Path.{◌≡◌, refl, ap, ◌∙◌}
 use mathlib.Core.Bool.{Bool, true, false, not}
 use mathlib.Core.List.{List, [], ◌∷◌}
 use borrow.Author.Tests.{ne_eqb}
-use Rattle.std.specs.Prelude.{if◌then◌else◌, ◌==◌}
+use Rattle.std.specs.Prelude.{Result, if◌then◌else◌, ◌==◌}
 use Rattle.sets.specs.Sets.{has?}
+use Rattle.rules.specs.declared.Malformed.{Malformed}
 use Rattle.rules.specs.declared.Command.{Command}
 use Rattle.rules.specs.declared.Answer.{Answer}
 use Rattle.rules.specs.declared.Desk as held
@@ -79,7 +80,7 @@ module _ (c : Card) (l : Left c) where
   responds e = waits response false refl e
 
   -- SEND
-  pub sends : (n : ℕ) (bytes : List ℕ) {k : Command} {there : Bool} {r : ℕ} {b : Bool} {a : Answer}
+  pub sends : (n : ℕ) (bytes : List ℕ) {k : Result Command Malformed} {there : Bool} {r : ℕ} {b : Bool} {a : Answer}
       → k ≡ command_of bytes
       → there ≡ has? c.roll.present n
       → ((t : Tables) → t.timers ≡ c.bank.owner → r ≡ send_refusal t n there c.desk.outstanding k)

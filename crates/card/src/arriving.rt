@@ -6,7 +6,8 @@ ghost use Rattle.card.specs.View.{Left};
 ghost use Rattle.card.specs.Replies.{Replies};
 
 use crate::{Card, Reply};
-use rules::{Arrived, Due, Kind, refused};
+use polling::Requests;
+use rules::{Arrived, Due, Kind, Refused};
 
 // The places of those who wait for the proactive handler, and of those who take profiles.
 const WAITING: usize = Kind::HANDLER_AVAILABLE as usize;
@@ -28,7 +29,7 @@ impl Card {
         let opened = arrivals::opened(refusal, round, arrived, whom, left.roll.present);
         left.round = opened;
         let marks = arrivals::other_marks(left.desk.outstanding);
-        let answer = arrivals::answered(refusal, marks);
+        let answer = arrivals::answered(refusal.and(Ok(marks)));
         Reply { card: left, answer }
     }
 
@@ -39,7 +40,7 @@ impl Card {
     {
         let mut left = self;
         let none = bytes.len() == 0;
-        let refusal = arrivals::refusal_if(none, refused::MALFORMED);
+        let refusal = Refused::Malformed.when(none);
         let registered = left.registered;
         let whom = registered[PROFILED];
         let arrived = arrivals::event_at(Kind::PROFILE_DOWNLOAD);
@@ -47,12 +48,16 @@ impl Card {
         let opened = arrivals::opened(refusal, round, arrived, whom, left.roll.present);
         left.round = opened;
         let marks = arrivals::other_marks(false);
-        let answer = arrivals::answered(refusal, marks);
+        let answer = arrivals::answered(refusal.and(Ok(marks)));
         let rows = left.rows;
         let menu = menu_shown::has_shown_row(rows, left.selectable);
         let events = events_shown::any_listened(registered, left.selectable);
         let polls = left.polls;
-        let interval = polling::any_polled(polls, left.selectable);
+        let requests = Requests {
+            polls,
+            set: left.selectable,
+        };
+        let interval = requests.any();
         let due = Due {
             menu,
             events,
@@ -61,7 +66,7 @@ impl Card {
         };
         let desk = left.desk;
         let begun = arrivals::begun(desk, due, bytes);
-        if refusal == 0 {
+        if refusal.is_ok() {
             left.desk = begun;
         }
         Reply { card: left, answer }
@@ -74,18 +79,19 @@ impl Card {
     {
         let mut left = self;
         let e = envelopes::read_envelope(bytes);
-        let bad = envelopes::is_bad(e);
-        let refusal = arrivals::refusal_if(bad, refused::MALFORMED);
+        let bad = e.is_err();
+        let refusal = Refused::Malformed.when(bad);
         let arrived = arrivals::arrival_of(e);
         let rows = left.rows;
         let registered = left.registered;
         let bank = left.bank;
-        let whom = arrivals::envelope_whom(arrived, rows, registered, bank, left.control);
+        let polls = left.polls;
+        let whom = arrivals::whom(arrived, rows, registered, bank, left.control, polls);
         let round = left.round;
         let opened = arrivals::opened(refusal, round, arrived, whom, left.roll.present);
         left.round = opened;
         let marks = arrivals::envelope_marks(left.desk.outstanding, e);
-        let answer = arrivals::answered(refusal, marks);
+        let answer = arrivals::answered(refusal.and(Ok(marks)));
         Reply { card: left, answer }
     }
 
@@ -102,10 +108,10 @@ impl Card {
             number: 0,
         };
         let round = left.round;
-        let opened = arrivals::opened(0, round, arrived, whom, left.roll.present);
+        let opened = arrivals::opened(Ok(()), round, arrived, whom, left.roll.present);
         left.round = opened;
         let marks = arrivals::other_marks(left.desk.outstanding);
-        let answer = arrivals::answered(0, marks);
+        let answer = arrivals::answered(Ok(marks));
         Reply { card: left, answer }
     }
 
@@ -125,14 +131,14 @@ impl Card {
         let still = arrivals::whom(arrived, rows, registered, bank, left.control, polls);
         let who = arrivals::ready(still, left.selectable, round.waiting);
         let order = left.roll.order;
-        let named = applets::first_of(order, left.roll.count, who);
+        let named = applets::first_of(&order[..usize::from(left.roll.count)], who);
         let turned = arrivals::turned(round, named);
         let used = arrivals::used_up(arrived, named);
         let rest = sets::without(registered[WAITING], used);
         registered[WAITING] = rest;
         left.registered = registered;
         left.round = turned;
-        let answer = answers::of_called(refusal, named);
+        let answer = answers::of_called(refusal.and(Ok(named)));
         Reply { card: left, answer }
     }
 }

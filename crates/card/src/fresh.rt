@@ -2,17 +2,18 @@
 ghost use Rattle.std.specs.Prelude.{◌≡◌, ◌≤◌, length};
 ghost use Rattle.std.specs.Prelude.{if◌then◌else◌, ◌==◌};
 ghost use Rattle.rules.specs.Holds.{document, fresh};
+ghost use Rattle.rules.specs.Numbers.{refusal_number};
 ghost use Rattle.card.specs.View.{stored};
 ghost use Rattle.card.specs.Replies.{MakesFresh};
 
 use crate::{Card, Reply};
-use rules::{Bank, Desk, Due, Kind, Roll};
+use rules::{Bank, Desk, Due, Kind, Refused, Roll};
 
 // How many bytes of a title are kept: all, or none where it is refused.
-fn kept_length(refusal: u8, len: usize) -> usize
-    ensures { result ≡ (if refusal == 0 then len else 0) }
+fn kept_length(refusal: Result<(), Refused>, len: usize) -> usize
+    ensures { result ≡ (if refusal_number refusal == 0 then len else 0) }
 {
-    if refusal == 0 {
+    if refusal.is_ok() {
         return len;
     }
     0
@@ -28,7 +29,7 @@ fn made(title: &[u8]) -> Card
     let bank = Bank {
         owner: [0; Bank::TIMERS],
     };
-    let held = writing::held_title(title);
+    let held = writing::held(title);
     let due = Due {
         menu: false,
         events: false,

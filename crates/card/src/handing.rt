@@ -6,6 +6,7 @@ ghost use Rattle.lists.specs.Wrote.{Wrote};
 ghost use Rattle.rules.specs.Events.{codes, first_download};
 ghost use Rattle.rules.specs.Applets.{longest_poll};
 ghost use Rattle.rules.specs.Commands.{menu_of, menu_bytes, event_bytes, interval_bytes};
+ghost use Rattle.rules.specs.Numbers.{refusal_number};
 ghost use Rattle.rules.specs.Calls.{system_command};
 ghost use Rattle.commands.specs.Fits.{Fits, shown_of};
 ghost use Rattle.events_shown.specs.Listed.{codes_from};
@@ -16,13 +17,14 @@ ghost use Rattle.card.specs.Replies.{Replies, Fills};
 ghost use Rattle.card.specs.Turns.{first_due, rest_due};
 
 use crate::{Card, Reply};
-use rules::{Desk, Due, Kind, Roll, Rows};
+use polling::Requests;
+use rules::{Desk, Due, Kind, Refused, Roll, Rows};
 
 // What is handed out: of an accepted call the first that is due.
-fn first_due(refusal: u8, due: Due) -> Due
-    ensures { result ≡ first_due (refusal == 0) due }
+fn first_due(refusal: Result<(), Refused>, due: Due) -> Due
+    ensures { result ≡ first_due (refusal_number refusal == 0) due }
 {
-    let accepted = refusal == 0;
+    let accepted = refusal.is_ok();
     let menu = accepted & due.menu;
     let events = accepted & !due.menu & due.events;
     let quiet = accepted & !due.menu & !due.events;
@@ -58,7 +60,7 @@ fn put_menu(buf: &mut [u8], title: [u8; Desk::TITLE], len: u8, rows: Rows, selec
     ensures { Wrote buf.old 0 (menu_bytes (menu_of (take len title) (shown_of selectable rows))) buf.new result × (result < 256) }
 {
     let n = len as usize;
-    commands::write_menu(buf, &title[..n], rows, selectable)
+    commands::write_menu(buf, &title[..n], &rows, selectable)
 }
 
 // Writes the list of the shown events; how many bytes it has.
@@ -67,9 +69,7 @@ fn put_events(buf: &mut [u8], registered: [u8; Kind::EVENTS], selectable: u8) ->
     ensures { Wrote buf.old 0 (event_bytes (codes_from (is_listened registered selectable) first_download codes)) buf.new result × (result < 256) }
 {
     let shown = events_shown::shown_codes(registered, selectable);
-    let at = shown.at;
-    let n = shown.count as usize;
-    commands::write_events(buf, &at[..n])
+    commands::write_events(buf, &shown)
 }
 
 // Writes POLL INTERVAL with the system interval; how many bytes it has.
@@ -77,7 +77,11 @@ fn put_interval(buf: &mut [u8], polls: [u16; Roll::APPLETS], selectable: u8) -> 
     requires { (interval_of polls selectable ≤ longest_poll) × (256 ≤ length buf.old) }
     ensures { Wrote buf.old 0 (interval_bytes (interval_of polls selectable)) buf.new result × (result < 256) }
 {
-    let seconds = polling::system_interval(polls, selectable);
+    let requests = Requests {
+        polls,
+        set: selectable,
+    };
+    let seconds = requests.interval();
     commands::write_interval(buf, seconds)
 }
 
@@ -94,29 +98,26 @@ impl Card {
         let first = first_due(refusal, due);
         let rest = rest_due(due, first);
         let outstanding = was | first.menu | first.events | first.interval | first.off;
-        left.desk.due.menu = rest.menu;
-        left.desk.due.events = rest.events;
-        left.desk.due.interval = rest.interval;
-        left.desk.due.off = rest.off;
+        left.desk.due = rest;
         left.desk.outstanding = outstanding;
-        let mut n: usize = 0;
-        if first.menu {
-            let title = left.desk.title;
-            let rows = left.rows;
-            n = put_menu(buf, title, left.desk.title_len, rows, left.selectable);
-        }
-        if first.events {
-            let registered = left.registered;
-            n = put_events(buf, registered, left.selectable);
-        }
-        if first.interval {
-            let polls = left.polls;
-            n = put_interval(buf, polls, left.selectable);
-        }
-        if first.off {
-            n = commands::write_off(buf);
-        }
-        let answer = answers::of_number(refusal, n as u8);
+        let n = if first.menu {
+            put_menu(
+                buf,
+                left.desk.title,
+                left.desk.title_len,
+                left.rows,
+                left.selectable,
+            )
+        } else if first.events {
+            put_events(buf, left.registered, left.selectable)
+        } else if first.interval {
+            put_interval(buf, left.polls, left.selectable)
+        } else if first.off {
+            commands::write_off(buf)
+        } else {
+            0
+        };
+        let answer = answers::of_number(refusal.and(Ok(n as u8)));
         Reply { card: left, answer }
     }
 }

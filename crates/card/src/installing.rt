@@ -16,7 +16,7 @@ impl Card {
         let mut left = self;
         let roll = left.roll;
         let refusal = admission::install_refusal(roll, applet, request);
-        if refusal == 0 {
+        if refusal.is_ok() {
             let grant = admission::granted(request);
             let next = applets::roll_with(roll, applet, grant);
             let selectable = sets::switched(left.selectable, applet, true);

@@ -18,6 +18,7 @@ ghost use Rattle.std.specs.Prelude.{◌≡◌, ◌&&◌, ◌||◌};
 
 use rules::{Answer, Bank, Desk, Kind, Roll, Round, Rows};
 
+// C lends it, and `stored` (specs/View.antt) gives a card of any model: that calls have left it so is asked, not its invariant.
 #[repr(C)]
 #[derive(Clone, Copy)]
 pub struct Card {
@@ -38,6 +39,18 @@ pub struct Card {
 pub struct Reply {
     pub card: Card,
     pub answer: Answer,
+}
+
+impl Reply {
+    // Leaves the card where it is lent, and gives the answer; always in place, so that the card is changed where it stands.
+    #[inline(always)]
+    pub fn leave_in(self, card: &mut Card) -> Answer
+        ensures left { card.new ≡ self.card }
+        ensures said { result ≡ self.answer }
+    {
+        *card = self.card;
+        self.answer
+    }
 }
 
 // A mark after a call: in a session, what changes is due.

@@ -1,17 +1,19 @@
 // The calls about proactive commands. Each has one way through: a refused call stores what was there.
 ghost use Rattle.std.specs.Prelude.{◌≡◌};
 ghost use Rattle.std.specs.Prelude.{if◌then◌else◌, ◌==◌};
+ghost use Rattle.rules.specs.Numbers.{refusal_number};
 ghost use Rattle.rules.specs.Calls.{proactive, send, response};
 ghost use Rattle.card.specs.View.{Left};
 ghost use Rattle.card.specs.Replies.{Replies};
 
 use crate::{Card, Reply};
+use rules::Refused;
 
 // Whether a command is outstanding after a call that makes it so, or not so, where it is accepted.
-fn outstanding_after(refusal: u8, was: bool, is: bool) -> bool
-    ensures { result ≡ (if refusal == 0 then is else was) }
+fn outstanding_after(refusal: Result<(), Refused>, was: bool, is: bool) -> bool
+    ensures { result ≡ (if refusal_number refusal == 0 then is else was) }
 {
-    if refusal == 0 {
+    if refusal.is_ok() {
         return is;
     }
     was

@@ -1,19 +1,31 @@
-// The calls about registrations for events. Each has one way through: a refused call stores what was there.
+// The calls about registrations for events. They have one way through: a refused call stores what was there.
 ghost use Rattle.std.specs.Prelude.{◌≡◌};
 ghost use Rattle.std.specs.Prelude.{if◌then◌else◌, ◌==◌};
+ghost use Rattle.rules.specs.Numbers.{refusal_number};
 ghost use Rattle.rules.specs.Calls.{event, set_event, clear_event, ask_event};
 ghost use Rattle.card.specs.View.{Left};
 ghost use Rattle.card.specs.Replies.{Replies};
-ghost use Rattle.card.specs.Turns.{set_after, owner_after, is_listed};
+ghost use Rattle.card.specs.Switches.{registering};
+ghost use Rattle.card.specs.Turns.{turn_refusal, set_after, owner_after, is_listed};
 
 use crate::{Card, Reply, due_after};
-use rules::Kind;
+use rules::{Kind, Refused};
+
+// The refusal: set event is refused too where call control is owned by another applet.
+fn turn_refusal(there: bool, kind: Kind, control: u8, applet: u8, on: bool) -> Result<(), Refused>
+    ensures { refusal_number result ≡ turn_refusal there kind control applet on }
+{
+    if on {
+        return refusals::refusal_to_set(there, kind, control, applet);
+    }
+    refusals::refusal_for(there, kind)
+}
 
 // The set of the event's place after the call.
-fn set_after(refusal: u8, place: u8, set: u8, applet: u8, on: bool) -> u8
-    ensures { result ≡ set_after refusal place set applet on }
+fn set_after(refusal: Result<(), Refused>, place: u8, set: u8, applet: u8, on: bool) -> u8
+    ensures { result ≡ set_after (refusal_number refusal) place set applet on }
 {
-    if refusal == 0 {
+    if refusal.is_ok() {
         if place == Kind::CALL_CONTROL {
             return set;
         }
@@ -23,10 +35,10 @@ fn set_after(refusal: u8, place: u8, set: u8, applet: u8, on: bool) -> u8
 }
 
 // The owner of call control after the call.
-fn owner_after(refusal: u8, place: u8, owner: u8, applet: u8, on: bool) -> u8
-    ensures { result ≡ owner_after refusal place owner applet on }
+fn owner_after(refusal: Result<(), Refused>, place: u8, owner: u8, applet: u8, on: bool) -> u8
+    ensures { result ≡ owner_after (refusal_number refusal) place owner applet on }
 {
-    if refusal == 0 {
+    if refusal.is_ok() {
         if place == Kind::CALL_CONTROL {
             if on {
                 return applet;
@@ -54,24 +66,7 @@ impl Card {
         requires { Left self }
         ensures { Replies self (event (set_event applet value)) result }
     {
-        let mut left = self;
-        let kind = events::kind_of(value);
-        let there = sets::has(left.roll.present, applet);
-        let refusal = refusals::refusal_to_set(there, kind, left.control, applet);
-        let place = events::place_of(kind);
-        let p = place as usize;
-        let mut registered = left.registered;
-        let was = registered[p];
-        let is = set_after(refusal, place, was, applet, true);
-        let turns = events_shown::events_turn(place, was, is, left.selectable);
-        let control = owner_after(refusal, place, left.control, applet, true);
-        let events_due = due_after(left.desk.session, left.desk.due.events, turns);
-        registered[p] = is;
-        left.registered = registered;
-        left.control = control;
-        left.desk.due.events = events_due;
-        let answer = answers::of_refusal(refusal);
-        Reply { card: left, answer }
+        self.switch_event::<true>(applet, value)
     }
 
     // Ends an applet's registration for an event.
@@ -79,17 +74,25 @@ impl Card {
         requires { Left self }
         ensures { Replies self (event (clear_event applet value)) result }
     {
+        self.switch_event::<false>(applet, value)
+    }
+
+    // Registers an applet for an event, or ends its registration; an instance has one call site, as that of the lock.
+    fn switch_event<const ON: bool>(self, applet: u8, value: i16) -> Reply
+        requires { Left self }
+        ensures { Replies self (event (registering ON applet value)) result }
+    {
         let mut left = self;
         let kind = events::kind_of(value);
         let there = sets::has(left.roll.present, applet);
-        let refusal = refusals::refusal_for(there, kind);
+        let refusal = turn_refusal(there, kind, left.control, applet, ON);
         let place = events::place_of(kind);
         let p = place as usize;
         let mut registered = left.registered;
         let was = registered[p];
-        let is = set_after(refusal, place, was, applet, false);
+        let is = set_after(refusal, place, was, applet, ON);
         let turns = events_shown::events_turn(place, was, is, left.selectable);
-        let control = owner_after(refusal, place, left.control, applet, false);
+        let control = owner_after(refusal, place, left.control, applet, ON);
         let events_due = due_after(left.desk.session, left.desk.due.events, turns);
         registered[p] = is;
         left.registered = registered;
@@ -112,7 +115,7 @@ impl Card {
         let registered = self.registered;
         let set = registered[p];
         let says = is_listed(place, set, self.control, applet);
-        let answer = answers::of_yes_or_no(refusal, says);
+        let answer = answers::of_yes_or_no(refusal.and(Ok(says)));
         Reply { card: self, answer }
     }
 }

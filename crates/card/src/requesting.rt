@@ -5,6 +5,7 @@ ghost use Rattle.card.specs.View.{Left};
 ghost use Rattle.card.specs.Replies.{Replies};
 
 use crate::{Card, Reply};
+use polling::{Polling, Requests};
 
 impl Card {
     // Takes an applet's request for a poll interval.
@@ -15,19 +16,19 @@ impl Card {
         let mut left = self;
         let there = sets::has(left.roll.present, applet);
         let refusal = refusals::poll_refusal(there, duration);
-        if refusal == 0 {
+        if refusal.is_ok() {
             let polls = left.polls;
             let seconds = polling::seconds_of(duration);
-            let next = polling::poll_with(polls, applet, seconds);
-            let polling = polling::due_requested(
-                left.desk.session,
-                left.desk.due.interval,
-                left.desk.due.off,
+            let next = applets::table_with(polls, applet, seconds);
+            let requests = Requests {
                 polls,
-                left.selectable,
-                applet,
-                seconds,
-            );
+                set: left.selectable,
+            };
+            let marked = Polling {
+                interval: left.desk.due.interval,
+                off: left.desk.due.off,
+            };
+            let polling = marked.after_request(left.desk.session, requests, applet, seconds);
             left.polls = next;
             left.desk.due.interval = polling.interval;
             left.desk.due.off = polling.off;

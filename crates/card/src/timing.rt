@@ -7,7 +7,7 @@ ghost use Rattle.card.specs.Replies.{Replies};
 
 use crate::{Card, Reply};
 
-// The applet as an owner of timers: its number, or 0 where there is no such applet.
+// The applet as an owner of timers: its number, or 0, nobody in C's bank, where there is no such applet.
 fn owner_for(there: bool, applet: u8) -> u8
     ensures { result ≡ (if there then applet else 0) }
 {
@@ -27,7 +27,7 @@ impl Card {
         let there = sets::has(left.roll.present, applet);
         let owner = owner_for(there, applet);
         let grants = left.roll.grants;
-        let grant = applets::grant_at(grants, applet);
+        let grant = applets::grant_at(&grants, applet);
         let bank = left.bank;
         let allocated = timers::allocate(bank, owner, grant.timers);
         let next = allocated.bank;

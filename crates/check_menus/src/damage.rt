@@ -3,117 +3,143 @@
 ghost use Rattle.std.specs.Prelude.{◌+◌, ◌<◌, ◌≤◌, length};
 
 use std::io::Write;
+use std::{fmt, io};
 use texts::byte_at;
 
 // How a byte is changed.
 #[derive(Clone, Copy)]
-pub enum Way {
+enum Way {
     Up,
     Down,
     Turned(u8),
     To(u8),
 }
 
+impl Way {
+    fn changed(self, old: u8) -> u8 {
+        match self {
+            Way::Up => old.wrapping_add(1),
+            Way::Down => old.wrapping_sub(1),
+            Way::Turned(bits) => old ^ bits,
+            Way::To(b) => b,
+        }
+    }
+}
+
+// The byte of an element that is changed: its tag, its length, the first of its value.
 #[derive(Clone, Copy)]
-pub struct Tried {
-    pub count: u64,
-    pub refused: u64,
+enum Part {
+    Tag,
+    Length,
+    Value,
 }
 
-fn changed(old: u8, way: Way) -> u8 {
-    match way {
-        Way::Up => old.wrapping_add(1),
-        Way::Down => old.wrapping_sub(1),
-        Way::Turned(bits) => old ^ bits,
-        Way::To(b) => b,
+impl Part {
+    fn place(self) -> usize
+        ensures { result ≤ 2 }
+    {
+        match self {
+            Part::Tag => 0,
+            Part::Length => 1,
+            Part::Value => 2,
+        }
     }
 }
 
-fn none() -> Tried {
-    Tried {
-        count: 0,
-        refused: 0,
+#[derive(Clone, Copy, Default)]
+struct Tried {
+    count: u64,
+    refused: u64,
+}
+
+impl fmt::Display for Tried {
+    fn fmt<W: fmt::Write>(&self, f: &mut fmt::Formatter<W>) -> fmt::Result {
+        write!(f, "{} of {} refused", self.refused, self.count)
     }
 }
 
-fn and_one(before: Tried, refusal: u8) -> Tried {
-    Tried {
-        count: before.count.wrapping_add(1),
-        refused: before.refused.wrapping_add(refusal as u64),
+impl Tried {
+    // One more: the command as it is.
+    fn add(&mut self, s: &[u8]) {
+        let refusal = menu_reader::read_menu(s).refusal;
+        self.count = self.count.wrapping_add(1);
+        self.refused = self.refused.wrapping_add(refusal as u64);
+    }
+
+    // One more: the command with the byte at a position changed, if there is one.
+    fn add_changed(&mut self, s: &mut [u8], at: usize, way: Way) {
+        if s.len() <= at {
+            return;
+        }
+        let old = s[at];
+        s[at] = way.changed(old);
+        self.add(s);
+        s[at] = old;
+    }
+
+    // The command with one byte of each element from a position on changed.
+    fn add_elements(&mut self, s: &mut [u8], from: usize, part: Part, way: Way) {
+        let mut at = from;
+        // each turn goes on by an element's length
+        while at < s.len() {
+            self.add_changed(s, at + part.place(), way);
+            at = past(s, at);
+        }
     }
 }
 
-// What the reader says of the command as it is.
-fn refusal(s: &[u8]) -> u8 {
-    let menu = menu_reader::read_menu(s);
-    menu.refusal
-}
-
-// The command with the byte at a position changed, if there is one.
-fn with_byte(before: Tried, s: &mut [u8], at: usize, way: Way) -> Tried {
-    if s.len() <= at {
-        return before;
-    }
-    let old = s[at];
-    s[at] = changed(old, way);
-    let refused = refusal(s);
-    s[at] = old;
-    and_one(before, refused)
+fn as_it_is(s: &[u8]) -> Tried {
+    let mut tried = Tried::default();
+    tried.add(s);
+    tried
 }
 
 // The command with each byte at the position behind it.
 fn behind(s: &mut [u8], end: usize) -> Tried {
-    let mut sum = none();
-    let mut i: usize = 0;
-    while i < 256 {
-        sum = with_byte(sum, s, end, Way::To(i as u8));
-        i += 1;
+    let mut tried = Tried::default();
+    for b in 0..=u8::MAX {
+        tried.add_changed(s, end, Way::To(b));
     }
-    sum
+    tried
 }
 
 // The command with each of its bytes changed.
 fn each_byte(s: &mut [u8], way: Way) -> Tried {
-    let n = s.len();
-    let mut sum = none();
-    let mut i: usize = 0;
-    while i < n {
-        sum = with_byte(sum, s, i, way);
-        i += 1;
+    let mut tried = Tried::default();
+    for at in 0..s.len() {
+        tried.add_changed(s, at, way);
     }
-    sum
+    tried
+}
+
+fn each_element(s: &mut [u8], from: usize, part: Part, way: Way) -> Tried {
+    let mut tried = Tried::default();
+    tried.add_elements(s, from, part, way);
+    tried
+}
+
+// Each length, the command's own first.
+fn each_length(s: &mut [u8], way: Way) -> Tried {
+    let value = value_at(s);
+    let mut tried = Tried::default();
+    tried.add_changed(s, value - 1, way);
+    tried.add_elements(s, value, Part::Length, way);
+    tried
 }
 
 // The position behind the element at a position.
-pub fn past(s: &[u8], at: usize) -> usize
+fn past(s: &[u8], at: usize) -> usize
     requires { at ≤ length s.now + 300 }
     ensures { (at < result) × (result ≤ at + 257) }
 {
     at + 2 + byte_at(s, at + 1) as usize
 }
 
-// The command with one byte of each element from a position on changed: the tag by 0, the length by 1, the first of the value by 2.
-fn each_element(before: Tried, s: &mut [u8], from: usize, place: usize, way: Way) -> Tried
-    requires { place ≤ 2 }
-{
-    let n = s.len();
-    let mut sum = before;
-    let mut at = from;
-    while at < n {
-        sum = with_byte(sum, s, at + place, way);
-        at = past(s, at);
-    }
-    sum
-}
-
 // Where the value starts.
 fn value_at(s: &[u8]) -> usize
     ensures { (2 ≤ result) × (result ≤ 3) }
 {
-    if byte_at(s, 1) == 0x81 {
-        return 3;
-    }
-    2
+    if byte_at(s, 1) == 0x81 { 3 } else { 2 }
 }
 
 // Where the items start, behind the title.
@@ -123,69 +149,53 @@ fn items_at(s: &[u8]) -> usize
     past(s, value_at(s) + 9)
 }
 
-// Each length, the command's own first.
-fn each_length(s: &mut [u8], way: Way) -> Tried {
-    let v = value_at(s);
-    let own = with_byte(none(), s, v - 1, way);
-    each_element(own, s, v, 1, way)
-}
-
-// Writes how many were tried and refused of the kind of damage at a place.
-fn told(to: &mut impl Write, kind: usize, tried: Tried) {
-    crate::put(to, b"  ");
-    crate::put_line(
-        to,
-        b"a byte less: \n\
-          a byte behind: \n\
-          length one more: \n\
-          length one less: \n\
-          flag missing: \n\
-          identifier twice: \n\
-          item with length 0: \n\
-          lowest bit turned: \n\
-          highest bit turned: \n",
-        kind,
-    );
-    crate::put_number(to, tried.refused);
-    crate::put(to, b" of ");
-    crate::put_number(to, tried.count);
-    crate::put(to, b" refused\n");
+// Writes how many were tried and refused of a kind of damage.
+fn told(to: &mut impl Write, kind: &str, tried: Tried) -> io::Result<()> {
+    writeln!(to, "  {kind}: {tried}")
 }
 
 // The items, where there are any.
-fn tell_items(to: &mut impl Write, s: &mut [u8]) {
+fn tell_items(to: &mut impl Write, s: &mut [u8]) -> io::Result<()> {
     let items = items_at(s);
     if byte_at(s, items + 1) == 0 {
-        return;
+        return Ok(());
     }
     let first = byte_at(s, items + 2);
     let second = past(s, items);
-    told(to, 5, each_element(none(), s, second, 2, Way::To(first)));
-    told(to, 6, each_element(none(), s, items, 1, Way::To(0)));
-}
-
-fn tell_bits(to: &mut impl Write, s: &mut [u8]) {
-    told(to, 7, each_byte(s, Way::Turned(1)));
-    told(to, 8, each_byte(s, Way::Turned(0x80)));
+    told(
+        to,
+        "identifier twice",
+        each_element(s, second, Part::Value, Way::To(first)),
+    )?;
+    told(
+        to,
+        "item with length 0",
+        each_element(s, items, Part::Length, Way::To(0)),
+    )
 }
 
 // Every kind of damage that leaves the command its size.
-fn tell_kinds(to: &mut impl Write, s: &mut [u8]) {
-    told(to, 2, each_length(s, Way::Up));
-    told(to, 3, each_length(s, Way::Down));
-    let v = value_at(s);
-    told(to, 4, each_element(none(), s, v, 0, Way::Turned(0x80)));
-    tell_items(to, s);
-    tell_bits(to, s);
+fn tell_kinds(to: &mut impl Write, s: &mut [u8]) -> io::Result<()> {
+    told(to, "length one more", each_length(s, Way::Up))?;
+    told(to, "length one less", each_length(s, Way::Down))?;
+    let value = value_at(s);
+    told(
+        to,
+        "flag missing",
+        each_element(s, value, Part::Tag, Way::Turned(0x80)),
+    )?;
+    tell_items(to, s)?;
+    told(to, "lowest bit turned", each_byte(s, Way::Turned(1)))?;
+    told(to, "highest bit turned", each_byte(s, Way::Turned(0x80)))
 }
 
 // Every kind of damage to the first n bytes.
-pub fn tell(to: &mut impl Write, out: &mut [u8], n: usize)
+pub fn tell(to: &mut impl Write, out: &mut [u8], n: usize) -> io::Result<()>
     requires { (1 ≤ n) × (n < length out.old) }
 {
     let less = n - 1;
     let more = n + 1;
-    told(to, 0, and_one(none(), refusal(&out[..less])));
-    told(to, 1, behind(&mut out[..more], n));
-    tell_kinds(to, &mut out[..n]);
+    told(to, "a byte less", as_it_is(&out[..less]))?;
+    told(to, "a byte behind", behind(&mut out[..more], n))?;
+    tell_kinds(to, &mut out[..n])
 }

@@ -8,109 +8,114 @@ ghost use Rattle.std.specs.Prelude.{◌≤◌, length};
 ghost use Rattle.card.specs.View.{Left};
 
 use card::Card;
-use rules::{Item, Pair, Request};
+use rules::{Pair, Request};
 use std::io::Write;
-use texts::find;
+use std::{fmt, io};
+use texts::first;
 
-// Writes all of a text, or as much of it as is taken.
-fn put(to: &mut impl Write, text: &[u8]) {
-    let _ = to.write_all(text);
-}
+// Menus written by hand.
+const WRITTEN: [(&str, &[u8]); 11] = [
+    (
+        "no items",
+        b"\xD0\x0D\x81\x03\x01\x25\x00\x82\x02\x81\x82\x85\x00\x8F\x00",
+    ),
+    (
+        "equal titles",
+        b"\xD0\x13\x81\x03\x01\x25\x00\x82\x02\x81\x82\x85\x00\x8F\x02\x01a\x8F\x02\x02a",
+    ),
+    (
+        "identifier twice",
+        b"\xD0\x13\x81\x03\x01\x25\x00\x82\x02\x81\x82\x85\x00\x8F\x02\x01a\x8F\x02\x01b",
+    ),
+    (
+        "item with length 0 behind an item",
+        b"\xD0\x11\x81\x03\x01\x25\x00\x82\x02\x81\x82\x85\x00\x8F\x02\x01a\x8F\x00",
+    ),
+    (
+        "item with length 0 before an item",
+        b"\xD0\x11\x81\x03\x01\x25\x00\x82\x02\x81\x82\x85\x00\x8F\x00\x8F\x02\x01a",
+    ),
+    (
+        "two items with length 0",
+        b"\xD0\x0F\x81\x03\x01\x25\x00\x82\x02\x81\x82\x85\x00\x8F\x00\x8F\x00",
+    ),
+    (
+        "item with no text",
+        b"\xD0\x0E\x81\x03\x01\x25\x00\x82\x02\x81\x82\x85\x00\x8F\x01\x01",
+    ),
+    (
+        "item with no text behind an item",
+        b"\xD0\x12\x81\x03\x01\x25\x00\x82\x02\x81\x82\x85\x00\x8F\x02\x01a\x8F\x01\x02",
+    ),
+    (
+        "item with identifier 0",
+        b"\xD0\x0F\x81\x03\x01\x25\x00\x82\x02\x81\x82\x85\x00\x8F\x02\x00a",
+    ),
+    (
+        "no item element",
+        b"\xD0\x0B\x81\x03\x01\x25\x00\x82\x02\x81\x82\x85\x00",
+    ),
+    (
+        "no items, with help",
+        b"\xD0\x0D\x81\x03\x01\x25\x80\x82\x02\x81\x82\x85\x00\x8F\x00",
+    ),
+];
 
-fn put_byte(to: &mut impl Write, b: u8) {
-    let _ = write!(to, "{b:02x}");
-}
+// Bytes in lower hex.
+#[derive(Clone, Copy)]
+struct Hex<'a>(&'a [u8]);
 
-// Writes a number in decimal.
-fn put_number(to: &mut impl Write, n: u64) {
-    let _ = write!(to, "{n}");
-}
-
-// The first n bytes.
-fn put_front(to: &mut impl Write, s: &[u8], n: u8) {
-    let mut i: usize = 0;
-    while i < s.len() {
-        if i < n as usize {
-            put_byte(to, s[i]);
+impl fmt::Display for Hex<'_> {
+    fn fmt<W: fmt::Write>(&self, f: &mut fmt::Formatter<W>) -> fmt::Result {
+        for b in self.0 {
+            write!(f, "{b:02x}")?;
         }
-        i += 1;
+        Ok(())
     }
-}
-
-// Writes the line of a text at a place, counted from 0.
-fn put_line(to: &mut impl Write, text: &[u8], place: usize) {
-    put(to, texts::line_at(text, place));
-}
-
-fn put_item(to: &mut impl Write, item: Item) {
-    put(to, b" ");
-    put_byte(to, item.identifier);
-    put(to, b":");
-    let text = item.text;
-    put_front(to, &text, item.len);
 }
 
 // What the reader says of the bytes.
-fn say(to: &mut impl Write, s: &[u8]) {
+fn say(to: &mut impl Write, s: &[u8]) -> io::Result<()> {
     let menu = menu_reader::read_menu(s);
-    put_byte(to, menu.refusal);
-    put(to, b" ");
-    let title = menu.title;
-    put_front(to, &title, menu.title_len);
+    let title = Hex(first(&menu.title, menu.title_len as usize));
+    write!(to, "{:02x} {title}", menu.refusal)?;
     if menu.help {
-        put(to, b" help");
+        write!(to, " help")?;
     }
-    let mut i: usize = 0;
-    while i < 12 {
-        if i < menu.count as usize {
-            let item = menu.at[i];
-            put_item(to, item);
-        }
-        i += 1;
+    for item in menu.at.iter().take(menu.count as usize) {
+        let text = Hex(first(&item.text, item.len as usize));
+        write!(to, " {:02x}:{text}", item.identifier)?;
     }
-    put(to, b"\n");
+    writeln!(to)
 }
 
 // Three applets with four entries each.
-fn installed(card: Card) -> Card
+fn installed(mut card: Card) -> Card
     requires { Left card }
     ensures { Left result }
 {
-    let none = Pair {
-        position: 0,
-        identifier: 0,
-    };
-    let pairs = [none; 4];
     let request = Request {
         priority: 1,
         timers: 0,
         entries: 4,
         text: 15,
-        pairs,
+        pairs: [Pair::default(); 4],
     };
-    let mut left = card;
-    let mut applet: u8 = 1;
-    while applet < 4 {
-        let changed = left.install(applet, request);
-        left = changed.card;
-        applet += 1;
+    for applet in 1..4 {
+        card = card.install(applet, request).card;
     }
-    left
+    card
 }
 
 // So many entries with one text; each second one has help.
-fn filled(card: Card, rows: u8, text: &[u8]) -> Card
+fn filled(mut card: Card, rows: u8, text: &[u8]) -> Card
     requires { Left card }
     ensures { Left result }
 {
-    let mut left = card;
-    let mut i: u8 = 0;
-    while i < rows {
-        let numbered = left.new_entry(i / 4 + 1, i % 2 == 1, text);
-        left = numbered.card;
-        i += 1;
+    for i in 0..rows {
+        card = card.new_entry(i / 4 + 1, i % 2 == 1, text).card;
     }
-    left
+    card
 }
 
 // The card in a session, with a title and so many entries.
@@ -118,10 +123,8 @@ fn begun(title: &[u8], rows: u8, text: &[u8]) -> Card
     ensures { Left result }
 {
     let made = Card::fresh(title);
-    let fresh = made.card;
-    let full = filled(installed(fresh), rows, text);
-    let profile = [0xFF];
-    let arrived = full.profile(&profile);
+    let full = filled(installed(made.card), rows, text);
+    let arrived = full.profile(&[0xFF]);
     arrived.card
 }
 
@@ -139,79 +142,62 @@ fn handed(card: Card, out: &mut [u8]) -> usize
     requires { Left card }
     ensures { result ≤ 255 }
 {
-    let reply = card.system_command(out);
-    let answer = reply.answer;
-    answer.number as usize
+    card.system_command(out).answer.number as usize
 }
 
 // The command that is due as it is, and damaged.
-fn tell(to: &mut impl Write, card: Card)
+fn tell(to: &mut impl Write, card: Card) -> io::Result<()>
     requires { Left card }
 {
     let mut out = [0u8; 256];
     let n = handed(card, &mut out);
-    put(to, b"menu of ");
-    put_number(to, n as u64);
-    put(to, b" bytes: ");
-    say(to, &out[..n]);
+    write!(to, "menu of {n} bytes: ")?;
+    say(to, &out[..n])?;
     if 0 < n {
-        damage::tell(to, &mut out, n);
+        damage::tell(to, &mut out, n)?;
     }
+    Ok(())
 }
 
 // A menu of so many rows, with so many bytes of a title and of a text.
-fn try_menu(to: &mut impl Write, titled: usize, rows: u8, each: usize)
+fn try_menu(to: &mut impl Write, titled: usize, rows: u8, each: usize) -> io::Result<()>
     requires { (titled ≤ 20) × (each ≤ 15) }
 {
     let title = *b"ABCDEFGHIJKLMNOPQRST";
     let text = *b"abcdefghijklmno";
-    tell(to, begun(&title[..titled], rows, &text[..each]));
+    tell(to, begun(&title[..titled], rows, &text[..each]))
 }
 
 // A menu of no rows: the only row goes while the menu is due.
-fn try_none(to: &mut impl Write, title: &[u8]) {
-    tell(to, emptied(begun(title, 1, title)));
+fn try_none(to: &mut impl Write, title: &[u8]) -> io::Result<()> {
+    tell(to, emptied(begun(title, 1, title)))
 }
 
-// Menus written by hand: a name, a line feed and the command, which is one element.
-fn try_written(to: &mut impl Write, s: &[u8]) {
-    let mut at: usize = 0;
-    while at < s.len() {
-        let mark = find(s, at, s.len(), b'\n');
-        let end = damage::past(s, mark + 1);
-        if s.len() < end {
-            return;
-        }
-        put(to, &s[at..mark]);
-        put(to, b": ");
-        say(to, &s[mark + 1..end]);
-        at = end;
+fn try_handed_out(to: &mut impl Write) -> io::Result<()> {
+    try_menu(to, 0, 1, 1)?;
+    try_menu(to, 20, 1, 15)?;
+    try_menu(to, 0, 12, 1)?;
+    try_menu(to, 20, 12, 15)?;
+    try_menu(to, 8, 6, 15)?;
+    try_menu(to, 9, 6, 15)?;
+    try_none(to, b"A")?;
+    try_none(to, b"ABCDEFGHIJKLMNO")
+}
+
+fn try_written(to: &mut impl Write) -> io::Result<()> {
+    for (name, menu) in WRITTEN {
+        write!(to, "{name}: ")?;
+        say(to, menu)?;
     }
+    Ok(())
 }
 
+fn try_all(to: &mut impl Write) -> io::Result<()> {
+    try_handed_out(to)?;
+    try_written(to)
+}
+
+// Where nobody takes its lines, it ends.
 fn main(rt: HostRuntime) {
-    let mut out = rt.stdout();
-    let to = &mut out;
-    try_menu(to, 0, 1, 1);
-    try_menu(to, 20, 1, 15);
-    try_menu(to, 0, 12, 1);
-    try_menu(to, 20, 12, 15);
-    try_menu(to, 8, 6, 15);
-    try_menu(to, 9, 6, 15);
-    try_none(to, b"A");
-    try_none(to, b"ABCDEFGHIJKLMNO");
-    try_written(
-        to,
-        b"no items\n\xD0\x0D\x81\x03\x01\x25\x00\x82\x02\x81\x82\x85\x00\x8F\x00\
-          equal titles\n\xD0\x13\x81\x03\x01\x25\x00\x82\x02\x81\x82\x85\x00\x8F\x02\x01a\x8F\x02\x02a\
-          identifier twice\n\xD0\x13\x81\x03\x01\x25\x00\x82\x02\x81\x82\x85\x00\x8F\x02\x01a\x8F\x02\x01b\
-          item with length 0 behind an item\n\xD0\x11\x81\x03\x01\x25\x00\x82\x02\x81\x82\x85\x00\x8F\x02\x01a\x8F\x00\
-          item with length 0 before an item\n\xD0\x11\x81\x03\x01\x25\x00\x82\x02\x81\x82\x85\x00\x8F\x00\x8F\x02\x01a\
-          two items with length 0\n\xD0\x0F\x81\x03\x01\x25\x00\x82\x02\x81\x82\x85\x00\x8F\x00\x8F\x00\
-          item with no text\n\xD0\x0E\x81\x03\x01\x25\x00\x82\x02\x81\x82\x85\x00\x8F\x01\x01\
-          item with no text behind an item\n\xD0\x12\x81\x03\x01\x25\x00\x82\x02\x81\x82\x85\x00\x8F\x02\x01a\x8F\x01\x02\
-          item with identifier 0\n\xD0\x0F\x81\x03\x01\x25\x00\x82\x02\x81\x82\x85\x00\x8F\x02\x00a\
-          no item element\n\xD0\x0B\x81\x03\x01\x25\x00\x82\x02\x81\x82\x85\x00\
-          no items, with help\n\xD0\x0D\x81\x03\x01\x25\x80\x82\x02\x81\x82\x85\x00\x8F\x00",
-    );
+    let _ = try_all(&mut rt.stdout());
 }

@@ -5,20 +5,21 @@ use native.Mathlib.Numerals.{add-one}
 use mathlib.Core.List.{List, [], ◌∷◌}
 use lib.ListN.{length}
 use borrow.Author.Tests.{lt-ltb, le-ltb}
-use Rattle.lists.specs.Wrote.{Wrote}
-use Rattle.lists.proofs.Writing.{Wrote-then}
+use Rattle.writing.specs.declared.Out.{Out}
+use Rattle.writing.specs.Puts.{Room, Puts}
+use Rattle.writing.proofs.PutLaws.{puts_then}
 use Rattle.rules.specs.Commands.{length_bytes, item_bytes}
 
-pub wrote-short : {b c : List ℕ} {n k : ℕ} → n < 0x80 → Wrote b 0 (0xD0 ∷ n ∷ []) c k → Wrote b 0 (0xD0 ∷ length_bytes n) c k
+pub puts_short : {o p : Out} {n : ℕ} → n < 0x80 → Puts o (0xD0 ∷ n ∷ []) p → Puts o (0xD0 ∷ length_bytes n) p
 unfolding length_bytes
-wrote-short {n = n} h w = rw (lt-ltb n 0x80 h) w
+puts_short {n = n} h w = rw (lt-ltb n 0x80 h) w
 
-pub wrote-long : {b c : List ℕ} {n k : ℕ} → 0x80 ≤ n → Wrote b 0 (0xD0 ∷ 0x81 ∷ n ∷ []) c k → Wrote b 0 (0xD0 ∷ length_bytes n) c k
+pub puts_long : {o p : Out} {n : ℕ} → 0x80 ≤ n → Puts o (0xD0 ∷ 0x81 ∷ n ∷ []) p → Puts o (0xD0 ∷ length_bytes n) p
 unfolding length_bytes
-wrote-long {n = n} h w = rw (le-ltb n 0x80 h) w
+puts_long {n = n} h w = rw (le-ltb n 0x80 h) w
 
-pub wrote-item
-    : {b : List ℕ} {at : ℕ} {c d : List ℕ} {n k id : ℕ} {t : List ℕ}
-    → Wrote b at (0x8F ∷ (length t + 1) ∷ id ∷ []) c n → Wrote c n t d k → at + 3 + length t ≤ length b → Wrote b at (item_bytes (record { identifier = id; text = t })) d k
+pub puts_item
+    : {o p q : Out} {id : ℕ} {t : List ℕ}
+    → Puts o (0x8F ∷ (length t + 1) ∷ id ∷ []) p → Puts p t q → Room o (3 + length t) → Puts o (item_bytes (record { identifier = id; text = t })) q
 unfolding item_bytes
-wrote-item w v h = Wrote-then (rw add-one at w) v (omega arith)
+puts_item w v h = puts_then (rw add-one at w) v (omega arith)

@@ -5,8 +5,8 @@ use native.Mathlib.Omega.{arith}
 use mathlib.Core.Path.{◌≡◌, refl, sym, ap, ◌∙◌}
 use mathlib.Core.Bool.{Bool, true, false, ◌||◌}
 use mathlib.Core.List.{List, [], ◌∷◌, ◌++◌, map, append_assoc, append-nil}
-use lib.ListN.{length, take, get_or, length-append, get_or-map}
-use lib.Seq.{take_all}
+use lib.ListN.{length, take, get_or, length-append, length-take, get_or-map}
+use lib.Seq.{take_all, get_or-take}
 use borrow.Author.Tests.{eqb-true, eqb-false}
 use Rattle.std.specs.Prelude.{if◌then◌else◌, ◌==◌}
 use Rattle.lists.specs.Lists.{Every, some?, keep, gather, empty?}
@@ -19,9 +19,9 @@ use Rattle.lists.proofs.Mapped.{map-length, map-append}
 use Rattle.rules.specs.declared.Row as held
 use Rattle.rules.specs.declared.Rows.{Rows}
 use Rattle.rules.specs.Holds.{Row}
-use Rattle.rules.specs.Held.{view_row, stored_row, no_row, view_rows}
+use Rattle.rules.specs.Held.{view_row, stored_row, no_row, view_rows, TidyRows}
 use Rattle.rules.specs.Commands.{Item, item_bytes, items_bytes}
-use Rattle.menu.proofs.Tidy.{blank, at-is, count-is, row_back}
+use Rattle.menu.proofs.Tidy.{blank, long, at-is, count-is, row_back}
 use Rattle.menu_shown.specs.Chosen.{is_shown}
 use Rattle.commands.specs.Fits.{item_of, items_of, rows_bytes, Short, Fits, shown_of}
 
@@ -67,6 +67,17 @@ rows-most (x ∷ l) a = omega (arith, rows-most l a.1, length-append (item_bytes
 abbrev pub no_held : held.Row
 no_held = record { identifier = 0; owner = 0; help = false; enabled = false; text = []; len = 0 }
 
+-- a row of the part of the array that counts
+module _ (s : Rows) {part : List held.Row} (is : part ≡ take s.count s.at) where
+  pub under : (i : ℕ) → i < length part → i < s.count
+  under i h = omega (arith, ap length is, length-take s.count s.at, h)
+
+  pub past : TidyRows s → (i : ℕ) → length part ≤ i → s.count ≤ i
+  past t i h = omega (arith, ap length is, length-take s.count s.at, long s t, t.few, h)
+
+  pub row-in : (i : ℕ) → i < length part → get_or part i no_held ≡ get_or s.at i no_held
+  row-in i h = ap (λ (x : List held.Row). get_or x i no_held) is ∙ get_or-take s.count s.at i no_held (under i h)
+
 -- rows in their one form: what stands at a place of the array
 module _ (s : Rows) (fits : Fits s) where
   abbrev l : List Row
@@ -101,7 +112,7 @@ module _ (s : Rows) (fits : Fits s) where
     abbrev done : ℕ → List Row
     done i = keep (is_shown set) (take i l)
 
-    abbrev item_at : ℕ → Item
+    abbrev pub item_at : ℕ → Item
     item_at i = record { identifier = (get_or s.at i no_held).identifier; text = take (get_or s.at i no_held).len (get_or s.at i no_held).text }
 
     shown-at : (i : ℕ) {b : Bool} → i < s.count → is_shown set (view_row (get_or s.at i no_held)) ≡ b → is_shown set (get_or l i no_row) ≡ b

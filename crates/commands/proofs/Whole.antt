@@ -13,25 +13,26 @@ use Rattle.lists.specs.Lists.{some?}
 use Rattle.rules.specs.Holds.{Row}
 use Rattle.rules.specs.Commands.{length_bytes, command_bytes, detail_bytes, items_bytes, menu_of, menu_value, menu_bytes, event_bytes, duration_bytes, interval_bytes, off_bytes}
 use Rattle.rules.proofs.Listed.{length_most}
-use Rattle.lists.specs.Wrote.{Wrote}
 use Rattle.commands.specs.Fits.{items_of, rows_bytes}
-use Rattle.lists.proofs.Writing.{Wrote-then}
+use Rattle.writing.specs.declared.Out.{Out}
+use Rattle.writing.specs.Puts.{Room, Puts}
+use Rattle.writing.proofs.PutLaws.{puts_then}
 use Rattle.commands.proofs.Lines.{items-none, items-some, items-length, items-under}
 
 -- the items
 module _ (l : List Row) {k : ℕ} (bytes : k ≡ length (rows_bytes l)) where
-  pub wrote-no-row : {b c : List ℕ} {at n : ℕ} → k ≡ 0 → Wrote b at (0x8F ∷ 0 ∷ []) c n → Wrote b at (items_bytes (items_of l)) c n
-  wrote-no-row z w = rw (items-none l (sym bytes ∙ z)) w
+  pub puts_no_row : {o p : Out} → k ≡ 0 → Puts o (0x8F ∷ 0 ∷ []) p → Puts o (items_bytes (items_of l)) p
+  puts_no_row z w = rw (items-none l (sym bytes ∙ z)) w
 
-  pub wrote-rows : {b c : List ℕ} {at n : ℕ} → (k ≡ 0 → ⊥) → Wrote b at (rows_bytes l) c n → Wrote b at (items_bytes (items_of l)) c n
-  wrote-rows z w = rw (items-some l (λ e. z (bytes ∙ e))) w
+  pub puts_rows : {o p : Out} → (k ≡ 0 → ⊥) → Puts o (rows_bytes l) p → Puts o (items_bytes (items_of l)) p
+  puts_rows z w = rw (items-some l (λ e. z (bytes ∙ e))) w
 
-  module _ (at : ℕ) {n : ℕ} (room : at + length (items_bytes (items_of l)) ≤ n) where
-    pub room-no-row : k ≡ 0 → at + 2 ≤ n
-    room-no-row z = omega (arith, ap length (items-none l (sym bytes ∙ z)))
+  module _ (o : Out) (room : Room o (length (items_bytes (items_of l)))) where
+    pub room_no_row : k ≡ 0 → Room o 2
+    room_no_row z = omega (arith, ap length (items-none l (sym bytes ∙ z)))
 
-    pub room-rows : (k ≡ 0 → ⊥) → at + length (rows_bytes l) ≤ n
-    room-rows z = omega (arith, ap length (items-some l (λ e. z (bytes ∙ e))))
+    pub room_rows : (k ≡ 0 → ⊥) → Room o (length (rows_bytes l))
+    room_rows z = omega (arith, ap length (items-some l (λ e. z (bytes ∙ e))))
 
 -- how many bytes a menu's value has
 pub value-length : (title : List ℕ) (rows : List Row) → length (menu_value (menu_of title rows)) ≡ 11 + (length title + length (items_bytes (items_of rows)))
@@ -52,69 +53,68 @@ menu-most title l under h =
     omega (arith, length-append (0xD0 ∷ length_bytes (length (menu_value (menu_of title l)))) (menu_value (menu_of title l)), length_most (length (menu_value (menu_of title l))), value-length title l, items-under l under)
 
 -- a first part, D0 and a length, and eleven bytes behind it
-module _ (n : ℕ) {b c₁ : List ℕ} {n₁ : ℕ} (room : 256 ≤ length b) (w₁ : Wrote b 0 (0xD0 ∷ length_bytes n) c₁ n₁) where
-  pub room-head : n₁ + 11 ≤ length c₁
-  room-head = omega (arith, w₁.next, w₁.long, length_most n)
+module _ (n : ℕ) {o p₁ : Out} (room : Room o 256) (w₁ : Puts o (0xD0 ∷ length_bytes n) p₁) where
+  pub room-head : Room p₁ 11
+  room-head = omega (arith, w₁.wrote.next, w₁.wrote.long, length_most n)
 
-  module _ {h c₂ : List ℕ} {n₂ : ℕ} (eleven : length h ≡ 11) (w₂ : Wrote c₁ n₁ h c₂ n₂) (s : List ℕ) (short : length s ≤ 20) where
-    pub room-third : n₂ + length s ≤ length c₂
-    room-third = omega (arith, w₁.next, w₁.long, length_most n, w₂.next, w₂.long)
+  module _ {h : List ℕ} {p₂ : Out} (eleven : length h ≡ 11) (w₂ : Puts p₁ h p₂) (s : List ℕ) (short : length s ≤ 20) where
+    pub room-third : Room p₂ (length s)
+    room-third = omega (arith, w₁.wrote.next, w₁.wrote.long, length_most n, w₂.wrote.next, w₂.wrote.long)
 
-    pub room-items : {c₃ : List ℕ} {n₃ : ℕ} (l : List Row) → length (rows_bytes l) ≤ 216 → Wrote c₂ n₂ s c₃ n₃ → n₃ + length (items_bytes (items_of l)) ≤ length c₃
-    room-items l under w₃ = omega (arith, w₁.next, w₁.long, length_most n, w₂.next, w₂.long, w₃.next, w₃.long, items-under l under)
+    pub room-items : {p₃ : Out} (l : List Row) → length (rows_bytes l) ≤ 216 → Puts p₂ s p₃ → Room p₃ (length (items_bytes (items_of l)))
+    room-items l under w₃ = omega (arith, w₁.wrote.next, w₁.wrote.long, length_most n, w₂.wrote.next, w₂.wrote.long, w₃.wrote.next, w₃.wrote.long, items-under l under)
 
 -- the four parts of a menu
-module _ (title : List ℕ) (l : List Row) (under : length (rows_bytes l) ≤ 216) (short : length title ≤ 20) {b c₁ c₂ c₃ c₄ : List ℕ} {k n q n₁ n₂ n₃ n₄ : ℕ} {help : Bool} where
-  pub wrote-menu
-      : 256 ≤ length b
+module _ (title : List ℕ) (l : List Row) (under : length (rows_bytes l) ≤ 216) (short : length title ≤ 20) {o p₁ p₂ p₃ p₄ : Out} {k n q : ℕ} {help : Bool} where
+  pub puts_menu
+      : Room o 256
       → k ≡ length (rows_bytes l)
       → n ≡ 11 + (length title + (if k == 0 then 2 else k))
-      → Wrote b 0 (0xD0 ∷ length_bytes n) c₁ n₁
       → help ≡ some? (λ (r : Row). r.help) l
       → q ≡ (if help then 0x80 else 0x00)
-      → Wrote c₁ n₁ (0x81 ∷ 3 ∷ 1 ∷ 0x25 ∷ q ∷ 0x82 ∷ 2 ∷ 0x81 ∷ 0x82 ∷ 0x85 ∷ length title ∷ []) c₂ n₂
-      → Wrote c₂ n₂ title c₃ n₃
-      → Wrote c₃ n₃ (items_bytes (items_of l)) c₄ n₄
-      → Wrote b 0 (menu_bytes (menu_of title l)) c₄ n₄
-  wrote-menu room ek en w₁ eh eq w₂ w₃ w₄ =
+      → Puts o (0xD0 ∷ length_bytes n) p₁
+      → Puts p₁ (0x81 ∷ 3 ∷ 1 ∷ 0x25 ∷ q ∷ 0x82 ∷ 2 ∷ 0x81 ∷ 0x82 ∷ 0x85 ∷ length title ∷ []) p₂
+      → Puts p₂ title p₃
+      → Puts p₃ (items_bytes (items_of l)) p₄
+      → Puts o (menu_bytes (menu_of title l)) p₄
+  puts_menu room ek en eh eq w₁ w₂ w₃ w₄ =
       let e : n ≡ length (menu_value (menu_of title l)) = en ∙ ap (λ (i : ℕ). 11 + (length title + (if i == 0 then 2 else i))) ek ∙ ap (λ (i : ℕ). 11 + (length title + i)) (sym (items-length l)) ∙ sym (value-length title l) in
       let most = length_most n in
-      let i = items-under l under in
-      let v₃ : Wrote c₂ n₂ (title ++ items_bytes (items_of l)) c₄ n₄ = Wrote-then w₃ w₄ (omega (arith, w₁.next, w₁.long, w₂.next, w₂.long)) in
-      let v₂ = Wrote-then w₂ v₃ (omega (arith, w₁.next, w₁.long)) in
+      let v₃ : Puts p₂ (title ++ items_bytes (items_of l)) p₄ = puts_then w₃ w₄ (omega (arith, w₁.wrote.next, w₁.wrote.long, w₂.wrote.next, w₂.wrote.long)) in
+      let v₂ = puts_then w₂ v₃ (omega (arith, w₁.wrote.next, w₁.wrote.long)) in
       whole (rw e at w₁) (rw (eq, eh) at v₂) (omega (arith, ap (λ (k : ℕ). length (length_bytes k)) e))
     where
       whole
-          : Wrote b 0 (0xD0 ∷ length_bytes (length (menu_value (menu_of title l)))) c₁ n₁
-          → Wrote c₁ n₁ (0x81 ∷ 3 ∷ 1 ∷ 0x25 ∷ (if some? (λ (r : Row). r.help) l then 0x80 else 0x00) ∷ 0x82 ∷ 2 ∷ 0x81 ∷ 0x82 ∷ 0x85 ∷ length title ∷ (title ++ items_bytes (items_of l))) c₄ n₄
-          → 0 + length (0xD0 ∷ length_bytes (length (menu_value (menu_of title l)))) ≤ length b
-          → Wrote b 0 (menu_bytes (menu_of title l)) c₄ n₄
-      whole w v f = unfold menu_bytes command_bytes menu_value menu_of detail_bytes in Wrote-then w v f
+          : Puts o (0xD0 ∷ length_bytes (length (menu_value (menu_of title l)))) p₁
+          → Puts p₁ (0x81 ∷ 3 ∷ 1 ∷ 0x25 ∷ (if some? (λ (r : Row). r.help) l then 0x80 else 0x00) ∷ 0x82 ∷ 2 ∷ 0x81 ∷ 0x82 ∷ 0x85 ∷ length title ∷ (title ++ items_bytes (items_of l))) p₄
+          → Room o (length (0xD0 ∷ length_bytes (length (menu_value (menu_of title l)))))
+          → Puts o (menu_bytes (menu_of title l)) p₄
+      whole w v f = unfold menu_bytes command_bytes menu_value menu_of detail_bytes in puts_then w v f
 
 -- the three parts of an event list
-pub wrote-events
-    : {b c₁ c₂ c₃ codes : List ℕ} {n₁ n₂ n₃ : ℕ}
-    → 256 ≤ length b
+pub puts_events
+    : {o p₁ p₂ p₃ : Out} {codes : List ℕ}
+    → Room o 256
     → length codes ≤ 13
-    → Wrote b 0 (0xD0 ∷ length_bytes (11 + length codes)) c₁ n₁
-    → Wrote c₁ n₁ (0x81 ∷ 3 ∷ 1 ∷ 5 ∷ 0 ∷ 0x82 ∷ 2 ∷ 0x81 ∷ 0x82 ∷ 0x99 ∷ length codes ∷ []) c₂ n₂
-    → Wrote c₂ n₂ codes c₃ n₃
-    → Wrote b 0 (event_bytes codes) c₃ n₃
+    → Puts o (0xD0 ∷ length_bytes (11 + length codes)) p₁
+    → Puts p₁ (0x81 ∷ 3 ∷ 1 ∷ 5 ∷ 0 ∷ 0x82 ∷ 2 ∷ 0x81 ∷ 0x82 ∷ 0x99 ∷ length codes ∷ []) p₂
+    → Puts p₂ codes p₃
+    → Puts o (event_bytes codes) p₃
 unfolding event_bytes command_bytes detail_bytes
-wrote-events {codes = codes} room few w₁ w₂ w₃ =
+puts_events {codes = codes} room few w₁ w₂ w₃ =
     let e : 11 + length codes ≡ length (0x81 ∷ 3 ∷ 1 ∷ 5 ∷ 0 ∷ 0x82 ∷ 2 ∷ 0x81 ∷ 0x82 ∷ 0x99 ∷ length codes ∷ codes) = omega arith in
     let m = length_most (11 + length codes) in
-    Wrote-then (rw e at w₁) (Wrote-then w₂ w₃ (omega (arith, w₁.next))) (omega (arith, ap (λ n. length (length_bytes n)) e))
+    puts_then (rw e at w₁) (puts_then w₂ w₃ (omega (arith, w₁.wrote.next, w₁.wrote.long))) (omega (arith, ap (λ n. length (length_bytes n)) e))
 
 -- the one part of a duration, by its unit
-module _ {b c : List ℕ} {at n : ℕ} where
-  pub wrote-seconds : (s : ℕ) → s ≤ 255 → Wrote b at (0x84 ∷ 2 ∷ 1 ∷ s ∷ []) c n → Wrote b at (duration_bytes s) c n
+module _ {o p : Out} where
+  pub puts_seconds : (s : ℕ) → s ≤ 255 → Puts o (0x84 ∷ 2 ∷ 1 ∷ s ∷ []) p → Puts o (duration_bytes s) p
   unfolding duration_bytes
-  wrote-seconds s h w = rw (le-leb s 255 h) w
+  puts_seconds s h w = rw (le-leb s 255 h) w
 
-  pub wrote-minutes : (s : ℕ) → 255 < s → Wrote b at (0x84 ∷ 2 ∷ 0 ∷ s / 60 ∷ []) c n → Wrote b at (duration_bytes s) c n
+  pub puts_minutes : (s : ℕ) → 255 < s → Puts o (0x84 ∷ 2 ∷ 0 ∷ s / 60 ∷ []) p → Puts o (duration_bytes s) p
   unfolding duration_bytes
-  wrote-minutes s h w = rw (lt-leb s 255 h) w
+  puts_minutes s h w = rw (lt-leb s 255 h) w
 
 pub duration-length : (s : ℕ) → length (duration_bytes s) ≡ 4
 unfolding duration_bytes
@@ -125,15 +125,15 @@ duration-length s = go (s ≤? 255)
     go false = refl
 
 -- the two parts of POLL INTERVAL, and the one of POLLING OFF
-pub wrote-interval
-    : {b c₁ c₂ : List ℕ} {n₁ n₂ : ℕ} (s : ℕ)
-    → 256 ≤ length b
-    → Wrote b 0 (0xD0 ∷ 13 ∷ 0x81 ∷ 3 ∷ 1 ∷ 3 ∷ 0 ∷ 0x82 ∷ 2 ∷ 0x81 ∷ 0x82 ∷ []) c₁ n₁
-    → Wrote c₁ n₁ (duration_bytes s) c₂ n₂
-    → Wrote b 0 (interval_bytes s) c₂ n₂
+pub puts_interval
+    : {o p₁ p₂ : Out} (s : ℕ)
+    → Room o 256
+    → Puts o (0xD0 ∷ 13 ∷ 0x81 ∷ 3 ∷ 1 ∷ 3 ∷ 0 ∷ 0x82 ∷ 2 ∷ 0x81 ∷ 0x82 ∷ []) p₁
+    → Puts p₁ (duration_bytes s) p₂
+    → Puts o (interval_bytes s) p₂
 unfolding interval_bytes command_bytes detail_bytes length_bytes
-wrote-interval s room w v = rw (duration-length s) (Wrote-then w v (omega arith))
+puts_interval s room w v = rw (duration-length s) (puts_then w v (omega arith))
 
-pub wrote-off : {b c : List ℕ} {n : ℕ} → Wrote b 0 (0xD0 ∷ 9 ∷ 0x81 ∷ 3 ∷ 1 ∷ 4 ∷ 0 ∷ 0x82 ∷ 2 ∷ 0x81 ∷ 0x82 ∷ []) c n → Wrote b 0 off_bytes c n
+pub puts_off : {o p : Out} → Puts o (0xD0 ∷ 9 ∷ 0x81 ∷ 3 ∷ 1 ∷ 4 ∷ 0 ∷ 0x82 ∷ 2 ∷ 0x81 ∷ 0x82 ∷ []) p → Puts o off_bytes p
 unfolding off_bytes command_bytes detail_bytes length_bytes
-wrote-off w = w
+puts_off w = w

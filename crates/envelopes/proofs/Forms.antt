@@ -8,21 +8,16 @@ use mathlib.Core.List.{List, [], ◌∷◌}
 use lib.ListN.{length, get_or, drop, length-drop}
 use lib.Seq.{length-take-le, get_or-take, get_or-drop}
 use borrow.Author.Tests.{eqb-true}
-use Rattle.std.specs.Prelude.{if◌then◌else◌, ◌==◌}
+use Rattle.std.specs.Prelude.{if◌then◌else◌, ◌==◌, Option, Some, None, Result, Ok, Err}
 use Rattle.lists.specs.Lists.{Every}
 use Rattle.rules.specs.declared.Span.{Span}
-use Rattle.rules.specs.declared.Found.{Found}
-use Rattle.rules.specs.declared.Found.TheVariants.{At, Nothing}
-use Rattle.rules.specs.declared.Byte.{Byte}
-use Rattle.rules.specs.declared.Byte.TheVariants.{One, Other}
-use Rattle.rules.specs.declared.Help.{Help}
-use Rattle.rules.specs.declared.Help.TheVariants.{Asked, Silent, Bad}
+use Rattle.rules.specs.declared.Malformed.{Malformed}
 use Rattle.rules.specs.declared.Envelope.{Envelope}
-use Rattle.rules.specs.declared.Envelope.TheVariants.{Call, Download, Expiry, Unrecognized, Malformed}
+use Rattle.rules.specs.declared.Envelope.TheVariants.{Call, Download, Expiry, Unrecognized}
 use Rattle.rules.specs.declared.Command.{Command}
-use Rattle.rules.specs.declared.Command.TheVariants as command
+use Rattle.rules.specs.declared.Command.TheVariants.{Plain, Timer}
 use Rattle.rules.specs.Holds.{Model}
-use Rattle.rules.specs.Bytes.{byte, found, part_of, outer_of}
+use Rattle.rules.specs.Bytes.{malformed, byte, found, part_of, outer_of}
 use Rattle.rules.specs.Envelopes.{is_sized, only_byte, one_byte, with_byte, with_devices, help_in, selection, envelope_by, with_outer, envelope_of, type_in, of_type, command_by, command_of}
 use Rattle.rules.specs.Calls.{arrival, proactive, envelope, send}
 use Rattle.rules.specs.Refusals.{arrival_lines, proactive_lines, lines, refusal}
@@ -35,7 +30,7 @@ use Rattle.tlv.proofs.Forms.{either-form-is-the-same-object, outer-here, rest-ou
 -- WHAT A SEARCH SAYS, by the value that it gives
 module _ (s : List ℕ) (value : Span) (inside : value.start + value.len ≤ length s) where
   abbrev part : List ℕ
-  part = part_of s (At value)
+  part = part_of s (Some value)
 
   part-long : length part ≡ value.len
   unfolding part_of
@@ -49,62 +44,61 @@ sized_by : (len : ℕ) → List (List ℕ) → Bool
 sized_by len [] = false
 sized_by len (v ∷ l) = length v == len
 
-byte_by : (size at : ℕ) → List (List ℕ) → Byte
-byte_by size at [] = Other
-byte_by size at (v ∷ l) = if length v == size then One (get_or v at 0) else Other
+byte_by : (size at : ℕ) → List (List ℕ) → Result ℕ Malformed
+byte_by size at [] = Err malformed
+byte_by size at (v ∷ l) = if length v == size then Ok (get_or v at 0) else Err malformed
 
-help_by : List (List ℕ) → Help
-help_by [] = Silent
-help_by (v ∷ l) = if length v == 0 then Asked else Bad
+help_by : List (List ℕ) → Result Bool Malformed
+help_by [] = Ok false
+help_by (v ∷ l) = if length v == 0 then Ok true else Err malformed
 
-Inside : List ℕ → Found → Type 0
-Inside s f = (value : Span) → f ≡ At value → value.start + value.len ≤ length s
+Inside : List ℕ → Option Span → Type 0
+Inside s f = (value : Span) → f ≡ Some value → value.start + value.len ≤ length s
 
 module _ (s : List ℕ) where
-  sized-by : (len : ℕ) (f : Found) → Inside s f → is_sized len f ≡ sized_by len (value_at s f)
+  sized-by : (len : ℕ) (f : Option Span) → Inside s f → is_sized len f ≡ sized_by len (value_at s f)
   unfolding is_sized sized_by value_at Inside
-  sized-by len (At value) i = rw (part-long s value (i value refl)) refl
-  sized-by len Nothing i = refl
+  sized-by len (Some value) i = rw (part-long s value (i value refl)) refl
+  sized-by len None i = refl
 
-  help-by : (f : Found) → Inside s f → help_in f ≡ help_by (value_at s f)
+  help-by : (f : Option Span) → Inside s f → help_in f ≡ help_by (value_at s f)
   unfolding help_in help_by value_at Inside
-  help-by (At value) i = rw (part-long s value (i value refl)) refl
-  help-by Nothing i = refl
+  help-by (Some value) i = rw (part-long s value (i value refl)) refl
+  help-by None i = refl
 
-  byte-if : (size at : ℕ) (value : Span) → Inside s (At value) → suc at ≤ size
-      → (if value.len == size then One (byte s (value.start + at)) else Other) ≡ byte_by size at (value_at s (At value))
+  byte-if : (size at : ℕ) (value : Span) → Inside s (Some value) → suc at ≤ size
+      → (if value.len == size then Ok (byte s (value.start + at)) else Err malformed) ≡ byte_by size at (value_at s (Some value))
   unfolding byte_by value_at Inside
   byte-if size at value i h = rw (part-long s value (i value refl)) (go (value.len == size) refl)
     where
-      go : (b : Bool) → (value.len == size) ≡ b → (if b then One (byte s (value.start + at)) else Other) ≡ (if b then One (get_or (part s value (i value refl)) at 0) else Other)
-      go true e = ap One (sym (part-byte s value (i value refl) at (omega (arith, eqb-true value.len size e))))
+      go : (b : Bool) → (value.len == size) ≡ b → (if b then Ok (byte s (value.start + at)) else Err malformed) ≡ (if b then Ok (get_or (part s value (i value refl)) at 0) else Err malformed)
+      go true e = ap Ok (sym (part-byte s value (i value refl) at (omega (arith, eqb-true value.len size e))))
       go false e = refl
 
-  only-by : (f : Found) → Inside s f → only_byte s f ≡ byte_by 1 0 (value_at s f)
+  only-by : (f : Option Span) → Inside s f → only_byte s f ≡ byte_by 1 0 (value_at s f)
   unfolding only_byte byte_by value_at
-  only-by (At value) i = let z : value.start ≡ value.start + 0 = omega arith in ap (λ n. if value.len == 1 then One (byte s n) else Other) z ∙ byte-if 1 0 value i (omega arith)
-  only-by Nothing i = refl
+  only-by (Some value) i = let z : value.start ≡ value.start + 0 = omega arith in ap (λ n. if value.len == 1 then Ok (byte s n) else Err malformed) z ∙ byte-if 1 0 value i (omega arith)
+  only-by None i = refl
 
-  type-by : (f : Found) → Inside s f → type_in s f ≡ byte_by 3 1 (value_at s f)
+  type-by : (f : Option Span) → Inside s f → type_in s f ≡ byte_by 3 1 (value_at s f)
   unfolding type_in byte_by value_at
-  type-by (At value) i = byte-if 3 1 value i (omega arith)
-  type-by Nothing i = refl
+  type-by (Some value) i = byte-if 3 1 value i (omega arith)
+  type-by None i = refl
 
 -- WHAT AN ENVELOPE AND A COMMAND SAY, by the values looked up
 abbrev look : List ℕ → (tag : ℕ) → List (List ℕ)
 look s tag = value_at s (found s tag 1)
 
-abbrev envelope_from : (tag : ℕ) (devices item help code timer : List (List ℕ)) → Envelope
+abbrev envelope_from : (tag : ℕ) (devices item help code timer : List (List ℕ)) → Result Envelope Malformed
 envelope_from tag devices item help code timer =
-    if tag == 0xD3 then (if sized_by 2 devices then with_byte (byte_by 1 0 item) (selection (help_by help)) Malformed else Malformed) else
-    if tag == 0xD6 then (if sized_by 2 devices then with_byte (byte_by 1 0 code) Download Malformed else Malformed) else
-    if tag == 0xD7 then (if sized_by 2 devices then with_byte (byte_by 1 0 timer) Expiry Malformed else Malformed) else
-    if tag == 0xD4 then (if sized_by 2 devices then Call else Malformed) else Unrecognized
+    if tag == 0xD3 then (if sized_by 2 devices then with_byte (byte_by 1 0 item) (selection (help_by help)) else Err malformed) else
+    if tag == 0xD6 then (if sized_by 2 devices then with_byte (byte_by 1 0 code) (λ code. Ok (Download code)) else Err malformed) else
+    if tag == 0xD7 then (if sized_by 2 devices then with_byte (byte_by 1 0 timer) (λ timer. Ok (Expiry timer)) else Err malformed) else
+    if tag == 0xD4 then (if sized_by 2 devices then Ok Call else Err malformed) else Ok Unrecognized
 
-abbrev command_from : (tag : ℕ) (type timer : Byte) → Command
+abbrev command_from : (tag : ℕ) (type timer : Result ℕ Malformed) → Result Command Malformed
 command_from tag type timer =
-    if tag == 0xD0 then with_byte type (λ t. if t == 0x27 then with_byte timer command.Timer command.Malformed else command.Plain t) command.Malformed
-    else command.Malformed
+    if tag == 0xD0 then with_byte type (λ t. if t == 0x27 then with_byte timer (λ timer. Ok (Timer timer)) else Ok (Plain t)) else Err malformed
 
 module _ (s : List ℕ) where
   inside : (tag : ℕ) → Inside s (found s tag 1)
@@ -140,10 +134,10 @@ module _ (l k : List Written) (w : Every Writable l) (v : Every Writable k) (sam
   command-same : (tag : ℕ) → command_by tag (run_bytes l) ≡ command_by tag (run_bytes k)
   command-same tag = command-by (run_bytes l) tag ∙ rw (looks 0x01, looks 0x24) refl ∙ sym (command-by (run_bytes k) tag)
 
-outer-says : {A : Type 0} (tag : ℕ) (l : List Written) → Every Writable l → length (run_bytes l) ≤ 0xFF → (says : ℕ → List ℕ → A) (malformed : A)
-    → with_outer (outer_bytes tag l) (outer_of (outer_bytes tag l)) says malformed ≡ says tag (run_bytes l)
+outer-says : {A : Type 0} (tag : ℕ) (l : List Written) → Every Writable l → length (run_bytes l) ≤ 0xFF → (says : ℕ → List ℕ → Result A Malformed)
+    → with_outer (outer_bytes tag l) (outer_of (outer_bytes tag l)) says ≡ says tag (run_bytes l)
 unfolding with_outer
-outer-says tag l w h says malformed = rw (outer-here tag l w h, rest-outer tag l) refl
+outer-says tag l w h says = rw (outer-here tag l w h, rest-outer tag l) refl
 
 -- THE CARD goes by what the bytes say
 module _ (m : Model) (a b : List ℕ) where
@@ -170,10 +164,10 @@ module _ (m : Model) (tag : ℕ) (l k : List Written) (w : Every Writable l) (v 
   unfolding envelope_of
   envelope-in-either-form =
       arrives-alike m (outer_bytes tag l) (outer_bytes tag k)
-      (outer-says tag l w g envelope_by Malformed ∙ envelope-same l k w v same tag ∙ sym (outer-says tag k v h envelope_by Malformed))
+      (outer-says tag l w g envelope_by ∙ envelope-same l k w v same tag ∙ sym (outer-says tag k v h envelope_by))
 
   pub send-in-either-form : (n : ℕ) → step m (proactive (send n (outer_bytes tag l))) ≡ step m (proactive (send n (outer_bytes tag k)))
   unfolding command_of
   send-in-either-form n =
       sent-alike m (outer_bytes tag l) (outer_bytes tag k) n
-      (outer-says tag l w g command_by command.Malformed ∙ command-same l k w v same tag ∙ sym (outer-says tag k v h command_by command.Malformed))
+      (outer-says tag l w g command_by ∙ command-same l k w v same tag ∙ sym (outer-says tag k v h command_by))

@@ -2,207 +2,138 @@
 // counts, also when its length is not the one stated.
 #![tactic(auto)]
 
-mod handler;
-
-ghost use Rattle.std.specs.Prelude.{◌≡◌};
+ghost use Rattle.std.specs.Prelude.{◌≡◌, Some, false, IfOk, IfErr};
 ghost use Rattle.rules.specs.Bytes.{found};
-ghost use Rattle.rules.specs.Envelopes.{is_sized, one_byte, help_in, selection, envelope_by, bad_envelope, type_in, command_by};
-ghost use Rattle.rules.specs.Readers.{ReadsEnvelope, ReadsCommand};
-ghost use Rattle.envelopes.specs.Judged.{is_recognized, needed_by, named_by};
+ghost use Rattle.rules.specs.Envelopes.{is_sized, one_byte, help_in, envelope_by, type_in, command_by};
+ghost use Rattle.rules.specs.Readers.{ReadsEnvelope, ReadsCommand, LocatesContent, GivesContent};
 
-pub use handler::{content, content_at};
-use rules::{Byte, Command, Envelope, Found, Help, Outer};
+use rules::{Command, Envelope, Malformed, Outer, Span};
 
-// The element of one byte that a recognized envelope with this outer tag needs.
-fn needed(tag: u8) -> u16
-    ensures { result ≡ needed_by tag }
+// The value of an element, which is to have this length.
+#[tactic(auto, unfolding(rules::specs::Envelopes::is_sized))]
+fn sized(s: &[u8], tag: u16, len: usize) -> Result<Span, Malformed>
+    ensures ok { IfOk result (λ value. (found s.now tag 1 ≡ Some value) × (value.len ≡ len)) }
+    ensures err { IfErr result (λ _. is_sized len (found s.now tag 1) ≡ false) }
 {
-    match tag {
-        0xD3 => 0x10,
-        0xD6 => 0x19,
-        _ => 0x24,
-    }
-}
-
-// Whether an envelope with this outer tag is recognized.
-fn is_recognized(tag: u8) -> bool
-    ensures { result ≡ is_recognized tag }
-{
-    match tag {
-        0xD3 => true,
-        0xD4 => true,
-        0xD6 => true,
-        0xD7 => true,
-        _ => false,
-    }
-}
-
-// Whether device identities are there, with their two bytes.
-fn has_devices(s: &[u8]) -> bool
-    ensures { result ≡ is_sized 2 (found s.now 0x02 1) }
-{
-    let f = tlv::locate(s, 0x02, 1);
-    match f {
-        Found::At(value) => value.len == 2,
-        Found::Nothing => false,
+    let value = tlv::locate(s, tag, 1).ok_or(Malformed)?;
+    if value.len == len {
+        Ok(value)
+    } else {
+        Err(Malformed)
     }
 }
 
 // The byte of an element that is to have one.
-fn only_byte(s: &[u8], tag: u16) -> Byte
+#[tactic(auto, unfolding(rules::specs::Envelopes::one_byte, rules::specs::Envelopes::only_byte, rules::specs::Envelopes::is_sized))]
+fn only_byte(s: &[u8], tag: u16) -> Result<u8, Malformed>
     ensures { result ≡ one_byte s.now tag }
 {
-    let f = tlv::locate(s, tag, 1);
-    match f {
-        Found::At(value) => {
-            let start = value.start;
-            if value.len == 1 {
-                Byte::One(s[start])
-            } else {
-                Byte::Other
-            }
-        }
-        Found::Nothing => Byte::Other,
-    }
+    let value = sized(s, tag, 1)?;
+    Ok(s[value.start])
 }
 
-// The help request, which has no bytes.
-fn help(s: &[u8]) -> Help
+// Whether there is a help request, which has no bytes.
+#[tactic(auto, unfolding(rules::specs::Envelopes::help_in))]
+#[inline(always)]
+fn help(s: &[u8]) -> Result<bool, Malformed>
     ensures { result ≡ help_in (found s.now 0x15 1) }
 {
-    let f = tlv::locate(s, 0x15, 1);
-    match f {
-        Found::At(value) => {
-            if value.len == 0 {
-                Help::Asked
-            } else {
-                Help::Bad
-            }
-        }
-        Found::Nothing => Help::Silent,
+    match tlv::locate(s, 0x15, 1) {
+        Some(value) if value.len == 0 => Ok(true),
+        Some(_) => Err(Malformed),
+        None => Ok(false),
     }
 }
 
-// A menu selection of this item: a choice, or help where it is asked for.
-fn selected(s: &[u8], item: u8) -> Envelope
-    ensures { result ≡ selection (help_in (found s.now 0x15 1)) item }
-{
-    let h = help(s);
-    match h {
-        Help::Asked => Envelope::Menu { item, help: true },
-        Help::Silent => Envelope::Menu { item, help: false },
-        Help::Bad => Envelope::Malformed,
-    }
-}
-
-// What an envelope says by the byte of the element that it needs: an item, an event code, a timer.
-fn named(tag: u8, s: &[u8], byte: u8) -> Envelope
-    ensures { result ≡ named_by tag s.now byte }
-{
-    match tag {
-        0xD3 => selected(s, byte),
-        0xD6 => Envelope::Download { code: byte },
-        _ => Envelope::Expiry { timer: byte },
-    }
-}
-
-// What an envelope with this outer tag and this value says.
-fn decide(tag: u8, s: &[u8]) -> Envelope
+// What an envelope with this outer tag and this value says; each that is recognized has device identities of two bytes.
+#[tactic(auto, unfolding(rules::specs::Envelopes::envelope_by, rules::specs::Envelopes::with_devices, rules::specs::Envelopes::is_sized, rules::specs::Envelopes::with_byte, rules::specs::Envelopes::selection))]
+#[inline(always)]
+fn decide(tag: u8, s: &[u8]) -> Result<Envelope, Malformed>
     ensures { result ≡ envelope_by tag s.now }
 {
-    if is_recognized(tag) {
-        if has_devices(s) {
-            if tag == 0xD4 {
-                return Envelope::Call;
-            }
-            let b = only_byte(s, needed(tag));
-            match b {
-                Byte::One(byte) => return named(tag, s, byte),
-                Byte::Other => return Envelope::Malformed,
-            }
-        }
-        return Envelope::Malformed;
+    let needed = match tag {
+        0xD3 => Some(0x10),
+        0xD4 => None,
+        0xD6 => Some(0x19),
+        0xD7 => Some(0x24),
+        _ => return Ok(Envelope::Unrecognized),
+    };
+    sized(s, 0x02, 2)?;
+    let Some(element) = needed else {
+        return Ok(Envelope::Call);
+    };
+    let byte = only_byte(s, element)?;
+    match tag {
+        0xD3 => Ok(Envelope::Menu {
+            item: byte,
+            help: help(s)?,
+        }),
+        0xD6 => Ok(Envelope::Download { code: byte }),
+        _ => Ok(Envelope::Expiry { timer: byte }),
     }
-    Envelope::Unrecognized
 }
 
 // What the bytes of an envelope say.
-pub fn read_envelope(s: &[u8]) -> Envelope
+#[tactic(auto, unfolding(rules::specs::Envelopes::envelope_of, rules::specs::Envelopes::with_outer))]
+pub fn read_envelope(s: &[u8]) -> Result<Envelope, Malformed>
     ensures { ReadsEnvelope s.now result }
 {
-    let o = tlv::outer(s);
-    match o {
-        Outer::Tlv { tag, start } => decide(tag, &s[start..]),
-        Outer::Malformed => Envelope::Malformed,
-    }
-}
-
-// Whether an envelope is refused with 1.
-pub fn is_bad(e: Envelope) -> bool
-    ensures { result ≡ bad_envelope e }
-{
-    match e {
-        Envelope::Menu { item: _, help: _ } => false,
-        Envelope::Call => false,
-        Envelope::Download { code: _ } => false,
-        Envelope::Expiry { timer: _ } => false,
-        Envelope::Unrecognized => false,
-        Envelope::Malformed => true,
-    }
+    let Outer { tag, start } = tlv::outer(s)?;
+    decide(tag, &s[start..])
 }
 
 // The type of a command: the second of the three bytes of its details.
-fn kind(s: &[u8]) -> Byte
+#[tactic(auto, unfolding(rules::specs::Envelopes::type_in, rules::specs::Envelopes::is_sized))]
+fn kind(s: &[u8]) -> Result<u8, Malformed>
     ensures { result ≡ type_in s.now (found s.now 0x01 1) }
 {
-    let f = tlv::locate(s, 0x01, 1);
-    match f {
-        Found::At(value) => {
-            let start = value.start;
-            if value.len == 3 {
-                Byte::One(s[start + 1])
-            } else {
-                Byte::Other
-            }
-        }
-        Found::Nothing => Byte::Other,
-    }
+    let details = sized(s, 0x01, 3)?;
+    Ok(s[details.start + 1])
 }
 
 // What a command with the outer tag D0 and this value says.
-fn instruct(s: &[u8]) -> Command
+#[tactic(auto, unfolding(rules::specs::Envelopes::command_by, rules::specs::Envelopes::of_type, rules::specs::Envelopes::with_byte))]
+fn instruct(s: &[u8]) -> Result<Command, Malformed>
     ensures { result ≡ command_by 0xD0 s.now }
 {
-    let k = kind(s);
-    match k {
-        Byte::One(kind) => {
-            if kind == 0x27 {
-                let t = only_byte(s, 0x24);
-                match t {
-                    Byte::One(timer) => Command::Timer { timer },
-                    Byte::Other => Command::Malformed,
-                }
-            } else {
-                Command::Plain { kind }
-            }
-        }
-        Byte::Other => Command::Malformed,
+    let kind = kind(s)?;
+    if kind == 0x27 {
+        Ok(Command::Timer {
+            timer: only_byte(s, 0x24)?,
+        })
+    } else {
+        Ok(Command::Plain { kind })
     }
 }
 
 // What the bytes of a command given to send say.
-pub fn read_command(s: &[u8]) -> Command
+#[tactic(auto, unfolding(rules::specs::Envelopes::command_of, rules::specs::Envelopes::with_outer, rules::specs::Envelopes::command_by))]
+pub fn read_command(s: &[u8]) -> Result<Command, Malformed>
     ensures { ReadsCommand s.now result }
 {
-    let o = tlv::outer(s);
-    match o {
-        Outer::Tlv { tag, start } => {
-            if tag == 0xD0 {
-                instruct(&s[start..])
-            } else {
-                Command::Malformed
-            }
-        }
-        Outer::Malformed => Command::Malformed,
+    let Outer { tag, start } = tlv::outer(s)?;
+    if tag == 0xD0 {
+        instruct(&s[start..])
+    } else {
+        Err(Malformed)
     }
+}
+
+// Where the handler's content stands: behind the length, to the end; nowhere in bytes that are refused.
+#[tactic(auto, unfolding(rules::specs::Envelopes::content_at, rules::specs::Envelopes::behind_length, rules::specs::Envelopes::envelope_of, rules::specs::Envelopes::with_outer))]
+pub fn content_at(s: &[u8]) -> Option<Span>
+    ensures { LocatesContent s.now result }
+{
+    let Outer { tag, start } = tlv::outer(s).ok()?;
+    decide(tag, &s[start..]).ok()?;
+    let len = s.len() - start;
+    Some(Span { start, len })
+}
+
+// The handler's content, a part of the envelope; the empty part where there is none.
+#[tactic(auto, unfolding(rules::specs::Envelopes::content_of))]
+pub fn content(s: &[u8]) -> &[u8]
+    ensures { GivesContent s.now result.now }
+{
+    tlv::part(s, content_at(s))
 }

@@ -1,6 +1,6 @@
--- Laws of kinds: which places a value names, and what may be set.
+-- Laws of kinds: which places a value names.
 -- Assumes nothing.
-use mathlib.Core.Path.{◌≡◌, sym}
+use mathlib.Core.Path.{◌≡◌}
 use mathlib.Core.Bool.{Bool, true, false}
 use mathlib.Core.List.{List, [], ◌∷◌}
 use Prim.Native.Nat.{ℕ, suc, ◌+◌, ◌≤◌, ◌<◌}
@@ -10,23 +10,12 @@ use lib.Signed.{lt_z}
 use mir.Syntax.{w16}
 use mir.Val.{SFits, of_z, to_z}
 use lib.ListN.{length}
-use borrow.Author.Tests.{ne_eqb}
 use Rattle.std.specs.Prelude.{if◌then◌else◌}
 use Rattle.lists.proofs.Signed.{passed}
 use Rattle.rules.specs.declared.Kind.{Kind}
 use Rattle.rules.specs.declared.Kind.TheVariants.{Event, Issuer, Reserved, Unsupported}
-use Rattle.rules.specs.Events.{supported, has_value, kind_of, named, minus, not_supported, not_to_set}
-use Rattle.rules.specs.Refusals.{line, first_holding}
+use Rattle.rules.specs.Events.{supported, has_value, kind_of, named, minus}
 use Rattle.events.specs.Place.{place_of}
-
--- the refusal of a kind, as `refusal_of` gives it
-abbrev pub refusal_of : Kind → ℕ
-refusal_of k = first_holding (line 7 (not_supported k) ∷ line 8 (not_to_set k) ∷ [])
-
--- any other event may be set
-pub settable : (e : ℕ) → (e ≡ 1 → ⊥) → (e ≡ 2 → ⊥) → (e ≡ 4 → ⊥) → 0 ≡ refusal_of (Event e)
-unfolding not_supported not_to_set first_holding
-settable e a b c = sym (simp (ne_eqb e 1 a, ne_eqb e 2 b, ne_eqb e 4 c))
 
 -- of a kind that is an event, something holds of its place
 abbrev pub OfPlace : (ℕ → Type 0) → Kind → Type 0

@@ -4,10 +4,11 @@
 
 ghost use Rattle.std.specs.Prelude.{◌≡◌, [], ◌∷◌};
 ghost use Rattle.rules.specs.Events.{kind_of, kind_of_code, not_supported, not_to_set, is_control};
+ghost use Rattle.rules.specs.Numbers.{refusal_number};
 ghost use Rattle.rules.specs.Refusals.{line, first_holding};
 ghost use Rattle.events.specs.Place.{place_of};
 
-use rules::{Kind, refused};
+use rules::{Kind, Refused};
 
 // What an event value is.
 pub fn kind_of(value: i16) -> Kind
@@ -62,43 +63,35 @@ pub fn kind_of_code(code: u8) -> Kind
     }
 }
 
-// The refusal that set, clear and ask event give for a kind: 7, 8, or 0 where there is none.
-pub fn refusal_of(kind: Kind) -> u8
-    ensures { result ≡ first_holding (line 7 (not_supported kind) ∷ line 8 (not_to_set kind) ∷ []) }
+// The refusal that set, clear and ask event give for a kind.
+#[tactic(auto, unfolding(rules::specs::Events::not_supported, rules::specs::Events::not_to_set, rules::specs::Refusals::first_holding, rules::specs::Numbers::refusal_number, rules::specs::Numbers::number_of))]
+pub fn refusal_of(kind: Kind) -> Result<(), Refused>
+    ensures { refusal_number result ≡ first_holding (line 7 (not_supported kind) ∷ line 8 (not_to_set kind) ∷ []) }
 {
     match kind {
-        Kind::Event(place) => match place {
-            Kind::MENU_SELECTION => refused::NOT_TO_SET,
-            Kind::HELP_REQUEST => refused::NOT_TO_SET,
-            Kind::TIMER_EXPIRATION => refused::NOT_TO_SET,
-            _ => 0,
-        },
-        Kind::Issuer => refused::NOT_SUPPORTED,
-        Kind::Reserved => refused::NOT_SUPPORTED,
-        Kind::Unsupported => refused::NOT_SUPPORTED,
+        Kind::Event(Kind::MENU_SELECTION | Kind::HELP_REQUEST | Kind::TIMER_EXPIRATION) => {
+            Err(Refused::NotToSet)
+        }
+        Kind::Event(_) => Ok(()),
+        Kind::Issuer | Kind::Reserved | Kind::Unsupported => Err(Refused::NotSupported),
     }
 }
 
 // Whether the kind is call control.
+#[tactic(auto, unfolding(rules::specs::Events::is_control))]
 pub fn is_control(kind: Kind) -> bool
     ensures { result ≡ is_control kind }
 {
-    match kind {
-        Kind::Event(place) => place == Kind::CALL_CONTROL,
-        Kind::Issuer => false,
-        Kind::Reserved => false,
-        Kind::Unsupported => false,
-    }
+    matches!(kind, Kind::Event(Kind::CALL_CONTROL))
 }
 
-// The place of an event; 0 for what is none.
+// The place of an event; 0 for what is none, where a refused call stores what was there: an Option would only be unwrapped to it.
+#[tactic(auto, unfolding(crate::specs::Place::place_of))]
 pub fn place_of(kind: Kind) -> u8
     ensures { result ≡ place_of kind }
 {
     match kind {
         Kind::Event(place) => place,
-        Kind::Issuer => 0,
-        Kind::Reserved => 0,
-        Kind::Unsupported => 0,
+        Kind::Issuer | Kind::Reserved | Kind::Unsupported => 0,
     }
 }

@@ -8,26 +8,25 @@ ghost use Rattle.floor.specs.Turned.{Turned};
 
 use card::Card;
 use floor_records::obey_all;
+use std::io;
 use std::io::{Read, Write};
 
-// Where the program stands: the card, the number of the next record, and whether to go on.
+// Where the program stands: the card, and the number of the next record.
 #[derive(Clone, Copy)]
 struct Stand {
     card: Card,
     number: u64,
-    more: bool,
 }
 
 // Reads until the buffer is full, the input ends or a read fails; how many bytes stand at its front.
+// check_readers reads so too: a crate for these lines alone would be no plainer.
 fn read_full(from: &mut impl Read, buf: &mut [u8]) -> usize
     ensures { result ≤ length buf.new }
 {
     let mut done = 0;
+    // each turn goes on by what was read
     while done < buf.len() {
-        let n = match from.read(&mut buf[done..]) {
-            Ok(n) => n,
-            Err(_) => 0,
-        };
+        let n = from.read(&mut buf[done..]).unwrap_or(0);
         if n == 0 {
             break;
         }
@@ -36,67 +35,41 @@ fn read_full(from: &mut impl Read, buf: &mut [u8]) -> usize
     done
 }
 
-// Writes all of the bytes, or as many as are taken, and says whether it was all.
-fn write_all(to: &mut impl Write, bytes: &[u8]) -> bool {
-    match to.write_all(bytes) {
-        Ok(()) => true,
-        Err(_) => false,
-    }
-}
-
-// Reads a piece of input, obeys its records and writes their lines, by way of the two lent buffers; nothing read is the end.
-fn obey_next<I: Read, O: Write>(
-    from: &mut I,
+// Obeys the records of a piece of input and writes their lines, by way of the lent buffer.
+fn obey_piece<O: Write>(
     to: &mut O,
-    stand: Stand,
-    input: &mut [u8],
-    out: &mut [u8],
-) -> Stand
-    requires { Left stand.card × (stand.number + 512 < 2 ^ 64) × (length input.old ≡ 12288) × (length out.old ≡ 276480) }
-    ensures { Turned stand.card stand.number result }
+    stand: &mut Stand,
+    piece: &[u8],
+    out: &mut [u8; 276480],
+) -> io::Result<()>
+    requires { Left stand.old.card × (stand.old.number + 512 < 2 ^ 64) × (length piece.now ≤ 12288) }
+    ensures { Turned stand.old.card stand.old.number piece.now stand.new }
 {
-    let card = stand.card;
-    let number = stand.number;
-    let n = read_full(from, input);
-    if n == 0 {
-        return Stand {
-            card,
-            number,
-            more: false,
-        };
-    }
-    let run = obey_all(card, number, &input[..n], out);
-    let left = run.card;
-    let len = run.len;
-    let more = write_all(to, &out[..len]);
-    Stand {
-        card: left,
-        number: run.number,
-        more,
-    }
+    let run = obey_all(stand.card, stand.number, piece, out);
+    stand.card = run.card;
+    stand.number = run.number;
+    to.write_all(&out[..run.len])
 }
 
 // A proved loop has to end, and nothing says that the input does: the turns are more than any input has pieces, and the numbers of their records fit.
-fn obey_input<I: Read, O: Write>(from: &mut I, to: &mut O, card: Card)
+fn obey_input<I: Read, O: Write>(from: &mut I, to: &mut O, card: Card) -> io::Result<()>
     requires { Left card }
 {
-    let mut stand = Stand {
-        card,
-        number: 1,
-        more: true,
-    };
+    let mut stand = Stand { card, number: 1 };
     let mut input = [0; 12288];
     let mut out = [0; 276480];
-    let mut turns = u64::MAX / 512;
-    while turns > 0 && stand.more {
-        stand = obey_next(from, to, stand, &mut input, &mut out);
-        turns -= 1;
+    for _ in 0..u64::MAX / 512 {
+        let n = read_full(from, &mut input);
+        if n == 0 {
+            break;
+        }
+        obey_piece(to, &mut stand, &input[..n], &mut out)?;
     }
+    Ok(())
 }
 
+// With nobody to read its lines the program ends as it does behind the last.
 fn main(rt: HostRuntime) {
-    let title = [0];
-    let made = Card::fresh(&title[..0]);
-    let card = made.card;
-    obey_input(&mut rt.stdin(), &mut rt.stdout(), card);
+    let made = Card::fresh(&[]);
+    let _ = obey_input(&mut rt.stdin(), &mut rt.stdout(), made.card);
 }

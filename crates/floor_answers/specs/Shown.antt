@@ -1,5 +1,5 @@
 -- The line of an answer, by the letter of the call that was made.
-use Rattle.std.specs.Prelude.{ℕ, List, [], ◌∷◌, take}
+use Rattle.std.specs.Prelude.{ℕ, List, Option, Some, None, [], ◌∷◌, take}
 use Prim.Native.Char.{code}
 use Rattle.std.specs.Prelude.{if◌then◌else◌, ◌==◌}
 use Rattle.lists.specs.Lists.{in?}
@@ -14,8 +14,7 @@ shown_by x a out =
     if x == code "N" then (if a.called == 0 then [] else a.called ∷ []) else
     if x == code "W" then take a.number out else []
 
--- a refusal shows nothing; where there was no call, 0, there is a dash for it
-unfoldable pub line_by : (number letter call : ℕ) → Answer → (out : List ℕ) → List ℕ
-line_by k letter x a out =
-    if x == 0 then line_of k letter dash [] else
-    line_of k letter (decimal a.refusal) (if a.refusal == 0 then shown_by x a out else [])
+-- a refusal shows nothing; where there was no call, there is a dash for it
+unfoldable pub line_by : (number letter : ℕ) (call : Option ℕ) → Answer → (out : List ℕ) → List ℕ
+line_by k letter None a out = line_of k letter dash []
+line_by k letter (Some x) a out = line_of k letter (decimal a.refusal) (if a.refusal == 0 then shown_by x a out else [])

@@ -13,7 +13,7 @@ use Rattle.lists.specs.Wrote.{Wrote}
 use Rattle.lists.proofs.WrittenParts.{wrote-front}
 use Rattle.rules.specs.Floor.{digit, decimal}
 use Rattle.floor_lines.specs.Texts.{Spells}
-use Rattle.floor_lines.proofs.LineLaws.{decimal-one, decimal-more, decimal-20}
+use Rattle.floor_lines.proofs.LineLaws.{decimal-one, decimal-more}
 
 digit-ten : (n : ℕ) → n < 10 → digit n ≡ 48 + n
 unfolding digit
@@ -55,9 +55,6 @@ ends k = go (k <? 10) refl
 module _ {k n : ℕ} {b : List ℕ} (s : Spells k b n) where
   pub spells-some : 1 ≤ n
   spells-some = let e = ends k in omega (arith, s.long, ap length e.here, length-append e.front ((48 + k % 10) ∷ []))
-
-  pub spells-few : k < 18446744073709551616 → n ≤ 20
-  spells-few h = omega (arith, s.long, decimal-20 k h)
 
   -- the last digit counted on
   front_long : length (ends k).front ≡ n - 1

@@ -7,13 +7,14 @@ use mathlib.Core.Path.{◌≡◌, refl, sym, ap, ◌∙◌}
 use mathlib.Core.Bool.{Bool, true, false}
 use mathlib.Core.List.{List, [], ◌∷◌, ◌++◌, append_assoc, append-nil}
 use lib.ListN.{length, take, get_or, length-append}
-use lib.Seq.{take-suc, take-length}
+use lib.Seq.{take-suc}
 use borrow.Author.Tests.{lt-ltb, le-ltb, ltb-true, ltb-false}
 use Rattle.lists.specs.Tests.{◌<?◌}
 use Rattle.std.specs.Prelude.{if◌then◌else◌}
 use Rattle.lists.specs.Lists.{gather, in?, empty?}
-use Rattle.lists.specs.Wrote.{Wrote}
-use Rattle.lists.proofs.Writing.{wrote_none, Wrote-then, wrote_as}
+use Rattle.writing.specs.declared.Out.{Out}
+use Rattle.writing.specs.Puts.{Room, Puts}
+use Rattle.writing.proofs.PutLaws.{puts_none, puts_then, puts_as}
 use Rattle.rules.specs.Floor.{letters, digit, decimal_by, decimal, hex, line_of}
 use Rattle.floor_lines.specs.Texts.{answer_text}
 
@@ -72,19 +73,13 @@ shorter n h = sym (ap length (decimal-more n h)) ∙ length-append (decimal (n /
 pub some-digit : (n : ℕ) → n < 10 → length (decimal n) ≡ 1
 some-digit n h = sym (ap length (decimal-one n h))
 
--- the one digit was written
-pub wrote-digit : {b c : List ℕ} {at n x k : ℕ} → x ≡ digit n → n < 10 → Wrote b at (x ∷ []) c k → Wrote b at (decimal n) c k
-wrote-digit {n = n} e h w = let m : n ≡ n % 10 = omega arith in wrote_as (rw e (ap (λ j. digit j ∷ []) m ∙ decimal-one n h)) w
+-- the last digit was put, alone or behind the others
+module _ {o : Out} {n x : ℕ} (last : x ≡ digit (n % 10)) where
+  pub puts_one : {p : Out} → n < 10 → Puts o (x ∷ []) p → Puts o (decimal n) p
+  puts_one h w = puts_as (rw last (decimal-one n h)) w
 
--- the last digit was written, alone or behind the others
-module _ {b : List ℕ} {at n x : ℕ} (last : x ≡ digit (n % 10)) where
-  pub wrote_one : {c : List ℕ} {k : ℕ} → n < 10 → Wrote b at (x ∷ []) c k → Wrote b at (decimal n) c k
-  wrote_one h w = wrote_as (rw last (decimal-one n h)) w
-
-  pub wrote-more
-      : {c d : List ℕ} {m k : ℕ}
-      → 10 ≤ n → at + length (decimal n) ≤ length b → Wrote b at (decimal (n / 10)) c m → Wrote c m (x ∷ []) d k → Wrote b at (decimal n) d k
-  wrote-more h f w v = wrote_as (rw last (decimal-more n h)) (Wrote-then w v (omega (arith, shorter n h)))
+  pub puts_more : {p q : Out} → 10 ≤ n → Room o (length (decimal n)) → Puts o (decimal (n / 10)) p → Puts p (x ∷ []) q → Puts o (decimal n) q
+  puts_more h f w v = puts_as (rw last (decimal-more n h)) (puts_then w v (omega (arith, shorter n h)))
 
 gather-snoc : {A B : Type 0} (f : A → List B) (l : List A) (x : A) → gather f (l ++ x ∷ []) ≡ gather f l ++ f x
 unfolding gather
@@ -101,28 +96,25 @@ length-hex [] = refl
 length-hex (x ∷ s) = let i = length-hex s in omega arith
 
 -- a loop that has spelled the first i bytes of s
-pub record Spelled (b : List ℕ) (at : ℕ) (s : List ℕ) (i : ℕ) (c : List ℕ) (n : ℕ) : Type 0 where
+pub record Spelled (o : Out) (s : List ℕ) (i : ℕ) (p : Out) : Type 0 where
   pub within : i ≤ length s
-  pub place : n ≡ at + 2 * i
-  pub wrote : Wrote b at (hex (take i s)) c n
+  pub place : p.at ≡ o.at + 2 * i
+  pub puts : Puts o (hex (take i s)) p
 
-module _ (b : List ℕ) (at : ℕ) (s : List ℕ) (fits : at + 2 * length s ≤ length b) where
-  pub spelled_none : Spelled b at s 0 b at
+module _ (o : Out) (s : List ℕ) (fits : Room o (2 * length s)) where
+  pub spelled_none : Spelled o s 0 o
   unfolding hex gather
-  spelled_none = record { within = omega arith; place = omega arith; wrote = wrote_none b at }
+  spelled_none = record { within = omega arith; place = omega arith; puts = puts_none o }
 
   pub spelled-more
-      : (i : ℕ) {c d : List ℕ} {n k x y : ℕ}
-      → i < length s → Spelled b at s i c n → x ≡ digit (get_or s i 0 / 16) → y ≡ digit (get_or s i 0 % 16) → Wrote c n (x ∷ y ∷ []) d k → Spelled b at s (i + 1) d k
-  spelled-more i h o e f w =
+      : (i : ℕ) {p q : Out} {x y : ℕ}
+      → i < length s → Spelled o s i p → x ≡ digit (get_or s i 0 / 16) → y ≡ digit (get_or s i 0 % 16) → Puts p (x ∷ y ∷ []) q → Spelled o s (i + 1) q
+  spelled-more i h l e f w =
       record {
         within = omega arith;
-        place = omega (arith, o.place, w.next);
-        wrote = wrote_as (rw (e, f) (hex-more s i h)) (Wrote-then o.wrote w (omega (arith, o.place, o.wrote.next)));
+        place = omega (arith, l.place, w.wrote.next);
+        puts = puts_as (rw (e, f) (hex-more s i h)) (puts_then l.puts w (omega (arith, l.place, l.puts.wrote.next)));
       }
-
-  pub spelled-all : (i : ℕ) {c : List ℕ} {n : ℕ} → length s ≤ i → Spelled b at s i c n → Wrote b at (hex s) c n
-  spelled-all i h o = let e : i ≡ length s = omega (arith, o.within) in wrote_as (ap hex (ap (λ k. take k s) e ∙ take-length s)) o.wrote
 
 -- the answer's text
 pub answer-none : (l : List ℕ) → length l ≡ 0 → 45 ∷ [] ≡ answer_text l
@@ -151,20 +143,26 @@ line-parts
 unfolding line_of answer_text
 line-parts number letter x refusal answer e = rw e (simp append_assoc)
 
-pub wrote-line
-    : {b b₁ b₂ b₃ b₄ b₅ b₆ : List ℕ} {n₁ n₂ n₃ n₄ n₅ n₆ : ℕ} {x : ℕ} {refusal : List ℕ} (number letter : ℕ) (answer : List ℕ)
-    → n₆ ≤ length b
+pub puts_line
+    : {o p₁ p₂ p₃ p₄ p₅ p₆ : Out} {x : ℕ} {refusal : List ℕ} (number letter : ℕ) (answer : List ℕ)
+    → p₆.at ≤ length o.buf.now
     → x ≡ (if in? letter letters then letter else 63)
-    → Wrote b 0 (decimal number) b₁ n₁
-    → Wrote b₁ n₁ (32 ∷ x ∷ 32 ∷ []) b₂ n₂
-    → Wrote b₂ n₂ refusal b₃ n₃
-    → Wrote b₃ n₃ (32 ∷ []) b₄ n₄
-    → Wrote b₄ n₄ (answer_text answer) b₅ n₅
-    → Wrote b₅ n₅ (10 ∷ []) b₆ n₆
-    → Wrote b 0 (line_of number letter refusal answer) b₆ n₆
-wrote-line {x = x} {refusal} number letter answer h e w₁ w₂ w₃ w₄ w₅ w₆ =
-    let k₂ = Wrote-then w₁ w₂ (omega arith) in
-    let k₃ = Wrote-then k₂ w₃ (omega arith) in
-    let k₄ = Wrote-then k₃ w₄ (omega arith) in
-    let k₅ = Wrote-then k₄ w₅ (omega arith) in
-    wrote_as (line-parts number letter x refusal answer e) (Wrote-then k₅ w₆ (omega arith))
+    → Puts o (decimal number) p₁
+    → Puts p₁ (32 ∷ x ∷ 32 ∷ []) p₂
+    → Puts p₂ refusal p₃
+    → Puts p₃ (32 ∷ []) p₄
+    → Puts p₄ (answer_text answer) p₅
+    → Puts p₅ (10 ∷ []) p₆
+    → Puts o (line_of number letter refusal answer) p₆
+puts_line {x = x} {refusal} number letter answer h e w₁ w₂ w₃ w₄ w₅ w₆ =
+    let n₁ = w₁.wrote.next in
+    let n₂ = w₂.wrote.next in
+    let n₃ = w₃.wrote.next in
+    let n₄ = w₄.wrote.next in
+    let n₅ = w₅.wrote.next in
+    let n₆ = w₆.wrote.next in
+    let k₂ = puts_then w₁ w₂ (omega arith) in
+    let k₃ = puts_then k₂ w₃ (omega (arith, k₂.wrote.next)) in
+    let k₄ = puts_then k₃ w₄ (omega (arith, k₃.wrote.next)) in
+    let k₅ = puts_then k₄ w₅ (omega (arith, k₄.wrote.next)) in
+    puts_as (line-parts number letter x refusal answer e) (puts_then k₅ w₆ (omega (arith, k₅.wrote.next)))

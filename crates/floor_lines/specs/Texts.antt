@@ -1,15 +1,13 @@
 -- What a line says of a refusal and of an answer, and its number in decimal.
-use Rattle.std.specs.Prelude.{ℕ, List, ◌≡◌, length, take}
+use Rattle.std.specs.Prelude.{ℕ, List, Option, Some, None, ◌≡◌, length, take}
 use Rattle.std.specs.Prelude.{if◌then◌else◌}
 use Rattle.lists.specs.Lists.{empty?}
 use Rattle.rules.specs.Floor.{decimal, hex, dash}
-use Rattle.floor_lines.specs.declared.Refusal.{Refusal}
-use Rattle.floor_lines.specs.declared.Refusal.TheVariants.{Number, NoCall}
 
 -- the number in decimal, or a dash where no call was made
-unfoldable pub refusal_text : Refusal → List ℕ
-refusal_text (Number n) = decimal n
-refusal_text NoCall = dash
+unfoldable pub refusal_text : Option ℕ → List ℕ
+refusal_text (Some n) = decimal n
+refusal_text None = dash
 
 -- the bytes in upper hex, or a dash where there are none
 unfoldable pub answer_text : List ℕ → List ℕ

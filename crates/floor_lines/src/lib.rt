@@ -6,18 +6,12 @@ ghost use Rattle.std.specs.Prelude.{◌≡◌, ℕ, ◌+◌, ◌*◌, ◌^◌, �
 ghost use Rattle.std.specs.Prelude.{if◌then◌else◌};
 ghost use Rattle.lists.specs.Lists.{in?};
 ghost use Rattle.lists.specs.Wrote.{Wrote};
+ghost use Rattle.writing.specs.Puts.{Room, Puts};
 ghost use Rattle.rules.specs.Floor.{letters, decimal, hex, line_of};
 ghost use Rattle.rules.specs.Floor.{digit as character_of};
 ghost use Rattle.floor_lines.specs.Texts.{Spells, refusal_text, answer_text};
 
-use writing::put;
-
-// What a line says of the refusal: its number (0: none), or that no call was made.
-#[derive(Clone, Copy)]
-pub enum Refusal {
-    Number(u8),
-    NoCall,
-}
+use writing::Out;
 
 // The character of a digit, to F.
 fn digit(n: u8) -> u8
@@ -27,126 +21,135 @@ fn digit(n: u8) -> u8
     if n < 10 { b'0' + n } else { b'A' + (n - 10) }
 }
 
-// A number in decimal from index at on; the index behind it.
-pub fn put_decimal(buf: &mut [u8], at: usize, n: u64) -> usize
-    requires { at + length (decimal n) ≤ length buf.old }
-    ensures { Wrote buf.old at (decimal n) buf.new result }
+// A number in decimal; printed by hand, for a line has no heap, and the kit's printer would bring a second decimal beside the rules'.
+pub fn put_decimal(out: &mut Out, n: u64)
+    requires { Room out.old (length (decimal n)) }
+    ensures { Puts out.old (decimal n) out.new }
 {
-    let last = [digit((n % 10) as u8)];
-    if n < 10 {
-        return put(buf, at, &last);
+    if n >= 10 {
+        put_decimal(out, n / 10);
     }
-    let next = put_decimal(buf, at, n / 10);
-    put(buf, next, &last)
+    out.put(&[digit((n % 10) as u8)]);
 }
 
-// The number behind the one that the buffer spells at its front, spelled there; how many digits it has.
-pub fn count_on(digits: &mut [u8], n: usize, number: u64) -> usize
-    requires { Spells number digits.old n × (20 ≤ length digits.old) × (number + 1 < 2 ^ 64) }
-    ensures { Spells (number + 1) digits.new result }
+// A number in decimal at the front of the buffer; how many digits it has.
+fn write_decimal(buf: &mut [u8], n: u64) -> usize
+    requires { length (decimal n) ≤ length buf.old }
+    ensures { Wrote buf.old 0 (decimal n) buf.new result }
 {
-    let last = digits[n - 1];
-    if last < b'9' {
-        digits[n - 1] = last + 1;
-        return n;
-    }
-    put_decimal(digits, 0, number + 1)
+    let mut out = Out::new(buf);
+    put_decimal(&mut out, n);
+    out.at
 }
 
-// Bytes in upper hex from index at on; the index behind them.
-fn put_hex(buf: &mut [u8], at: usize, bytes: &[u8]) -> usize
-    requires { at + 2 * length bytes.now ≤ length buf.old }
-    ensures { Wrote buf.old at (hex bytes.now) buf.new result }
-{
-    let mut next = at;
-    let mut i = 0;
-    while i < bytes.len() {
-        let b = bytes[i];
-        let two = [digit(b / 16), digit(b % 16)];
-        next = put(buf, next, &two);
-        i += 1;
-    }
-    next
+// A number and its decimal digits, at the front of an array of which the last digit is counted on in place.
+#[derive(Clone, Copy)]
+pub struct Counter {
+    pub number: u64,
+    pub digits: [u8; 20],
+    pub len: usize,
+    ghost spelled: { Spells number digits len },
 }
 
-// The byte is one of these.
-fn is_in(s: &[u8], b: u8) -> bool
-    ensures { result ≡ in? b s.now }
-{
-    let mut i = 0;
-    while i < s.len() {
-        if s[i] == b {
-            return true;
+impl Counter {
+    pub fn new(number: u64) -> Counter
+        ensures { result.number ≡ number }
+    {
+        let mut digits = [0; 20];
+        let len = write_decimal(&mut digits, number);
+        Counter {
+            number,
+            digits,
+            len,
         }
-        i += 1;
     }
-    false
+
+    // The digits of the number.
+    pub fn text(&self) -> &[u8]
+        ensures { result.now ≡ decimal self.now.number }
+    {
+        &self.digits[..self.len]
+    }
+
+    // The next number, of which most often just the last digit is another.
+    pub fn count_on(&mut self)
+        requires { self.old.number + 1 < 2 ^ 64 }
+        ensures { self.new.number ≡ self.old.number + 1 }
+    {
+        let end = self.len - 1;
+        let last = self.digits[end];
+        let next = self.number + 1;
+        let only_last = last < b'9';
+        if only_last {
+            self.digits[end] = last + 1;
+        } else {
+            self.len = write_decimal(&mut self.digits, next);
+        }
+        self.number = next;
+    }
+}
+
+// Bytes in upper hex.
+fn put_hex(out: &mut Out, bytes: &[u8])
+    requires { Room out.old (2 * length bytes.now) }
+    ensures { Puts out.old (hex bytes.now) out.new }
+{
+    for b in bytes {
+        out.put(&[digit(*b / 16), digit(*b % 16)]);
+    }
 }
 
 // The letter, or ? where it is not known.
 fn shown_letter(letter: u8) -> u8
     ensures { result ≡ (if in? letter letters then letter else 63) }
 {
-    let known = *b"IMECPSONWRTDLU";
-    if is_in(&known, letter) { letter } else { b'?' }
-}
-
-// A small number in decimal from index at on, most of which have one digit; the index behind it.
-fn put_number(buf: &mut [u8], at: usize, n: u8) -> usize
-    requires { at + 3 ≤ length buf.old }
-    ensures { Wrote buf.old at (decimal n) buf.new result × (result ≤ at + 3) }
-{
-    if n < 10 {
-        let one = [digit(n)];
-        return put(buf, at, &one);
+    if b"IMECPSONWRTDLU".contains(&letter) {
+        letter
+    } else {
+        b'?'
     }
-    put_decimal(buf, at, n as u64)
 }
 
 // The refusal's number in decimal, or - where no call was made.
-fn put_refusal(buf: &mut [u8], at: usize, refusal: Refusal) -> usize
-    requires { at + 3 ≤ length buf.old }
-    ensures { Wrote buf.old at (refusal_text refusal) buf.new result × (result ≤ at + 3) }
+fn put_refusal(out: &mut Out, refusal: Option<u8>)
+    requires { Room out.old 3 }
+    ensures { Puts out.old (refusal_text refusal) out.new × (out.new.at ≤ out.old.at + 3) }
 {
     match refusal {
-        Refusal::Number(n) => put_number(buf, at, n),
-        Refusal::NoCall => {
-            let dash = [b'-'];
-            put(buf, at, &dash)
-        }
+        Some(number) => put_decimal(out, number as u64),
+        None => out.put(b"-"),
     }
 }
 
 // The answer in upper hex, or - where it is empty.
-fn put_answer(buf: &mut [u8], at: usize, answer: &[u8]) -> usize
-    requires { at + length (answer_text answer.now) ≤ length buf.old }
-    ensures { Wrote buf.old at (answer_text answer.now) buf.new result }
+fn put_answer(out: &mut Out, answer: &[u8])
+    requires { Room out.old (length (answer_text answer.now)) }
+    ensures { Puts out.old (answer_text answer.now) out.new }
 {
-    if answer.len() == 0 {
-        let dash = [b'-'];
-        return put(buf, at, &dash);
+    if answer.is_empty() {
+        out.put(b"-");
+    } else {
+        put_hex(out, answer);
     }
-    put_hex(buf, at, answer)
 }
 
-// The line of a record, whose number is spelled, at the front of the buffer; how many bytes it has.
+// The line of a record, whose number is spelled, at the front of the buffer; how many bytes it has. With no refusal, no call was made.
 pub fn write_line(
     buf: &mut [u8],
     number: &[u8],
     letter: u8,
-    refusal: Refusal,
+    refusal: Option<u8>,
     answer: &[u8],
 ) -> usize
     requires { (length number.now ≤ 20) × (length answer.now ≤ 256) × (540 ≤ length buf.old) }
     ensures { (k : ℕ) → number.now ≡ decimal k → Wrote buf.old 0 (line_of k letter (refusal_text refusal) answer.now) buf.new result }
 {
-    let numbered = put(buf, 0, number);
-    let middle = [b' ', shown_letter(letter), b' '];
-    let lettered = put(buf, numbered, &middle);
-    let judged = put_refusal(buf, lettered, refusal);
-    let space = [b' '];
-    let parted = put(buf, judged, &space);
-    let answered = put_answer(buf, parted, answer);
-    let end = [b'\n'];
-    put(buf, answered, &end)
+    let mut out = Out::new(buf);
+    out.put(number);
+    out.put(&[b' ', shown_letter(letter), b' ']);
+    put_refusal(&mut out, refusal);
+    out.put(b" ");
+    put_answer(&mut out, answer);
+    out.put(b"\n");
+    out.at
 }

@@ -1,4 +1,3 @@
 -- The laws of orders.
 pub mod OrderLaws
 pub mod ValueLaws
-pub mod WordLaws

@@ -9,8 +9,10 @@ use mathlib.Core.List.{List, [], ◌∷◌}
 use lib.ListN.{length, drop, length-drop}
 use lib.Seq.{length-take-le}
 use borrow.Author.Tests.{eq-eqb, ne_eqb, le-leb, lt-leb, eqb-true, leb-true}
+use Rattle.std.proofs.lemmas.Option.{same_Some, none-some}
 use Rattle.lists.specs.Tests.{◌≤?◌}
-use Rattle.std.specs.Prelude.{◌==◌}
+use Rattle.std.specs.Prelude.{Some, None, ◌==◌}
+use Rattle.std.specs.List.{list_all}
 use Rattle.lists.specs.Lists.{every?}
 use Rattle.lists.proofs.Truth.{and_left, and_right}
 use Rattle.rules.specs.Bytes.{byte}
@@ -57,6 +59,11 @@ unfolding marks_help
 help-first [] = refl
 help-first (x ∷ l) = rw (le-leb 1 (length (x ∷ l)) (omega arith)) refl
 
+each : (l : List ℕ) → list_all (λ x. x == 0) l ≡ every? (λ x. x == 0) l
+unfolding every?
+each [] = refl
+each (x ∷ l) = ap (λ b. x == 0 && b) (each l)
+
 module _ (s : List ℕ) where
   -- a record that is filled, and one that is not
   pub unfilled-length : (length s ≡ 24 → ⊥) → false ≡ filled s
@@ -67,9 +74,9 @@ module _ (s : List ℕ) where
   unfolding filled
   unfilled-count e h = rw (eq-eqb (length s) 24 e, lt-leb (byte s 2) 20 h) refl
 
-  pub filled-rest : (b : Bool) → length s ≡ 24 → byte s 2 ≤ 20 → b ≡ every? (λ x. x == 0) (drop (byte s 2 + 3) s) → b ≡ filled s
+  pub filled-rest : (b : Bool) → length s ≡ 24 → byte s 2 ≤ 20 → b ≡ list_all (λ x. x == 0) (drop (byte s 2 + 3) s) → b ≡ filled s
   unfolding filled
-  filled-rest b e h r = rw (eq-eqb (length s) 24 e, le-leb (byte s 2) 20 h) r
+  filled-rest b e h r = rw (eq-eqb (length s) 24 e, le-leb (byte s 2) 20 h) (r ∙ each (drop (byte s 2 + 3) s))
 
   -- it has as many arguments as it counts
   counted : filled s ≡ true → length (arguments_of s) ≡ byte s 2
@@ -81,57 +88,70 @@ module _ (s : List ℕ) where
       length-take-le (byte s 2) (drop 3 s) (omega (arith, whole, few, length-drop 3 s))
 
   pub letter-of-call
-      : {x a : ℕ} {l : List ℕ} {t b : Bool} → t ≡ filled s → t ≡ true → x ≡ byte s 0 → a ≡ byte s 1 → l ≡ arguments_of s
-      → b ≡ makes_call (order_by x a (length l) l) → (b ≡ true → x ≡ call_letter s) × (b ≡ false → 0 ≡ call_letter s)
+      : {x a : ℕ} {l : List ℕ} → true ≡ filled s → x ≡ byte s 0 → a ≡ byte s 1 → l ≡ arguments_of s
+      → true ≡ makes_call (order_by x a (length l) l) → Some x ≡ call_letter s
   unfolding call_letter order_of arguments_of
-  letter-of-call {b = b} f y ex ea el eb =
-      let so = sym f ∙ y in
-      let made : b ≡ makes_call (order_by (byte s 0) (byte s 1) (byte s 2) (arguments_of s)) = eb ∙ rw (ex, ea, el, counted so) refl in
-      (λ h. rw (so, sym made ∙ h) ex, λ h. rw (so, sym made ∙ h) refl)
+  letter-of-call f ex ea el made =
+      let so = sym f in
+      let m : true ≡ makes_call (order_by (byte s 0) (byte s 1) (byte s 2) (arguments_of s)) = made ∙ rw (ex, ea, el, counted so) refl in
+      rw (so, sym m) (ap Some ex)
 
-  pub letter-of-none : (t : Bool) → t ≡ filled s → t ≡ false → 0 ≡ call_letter s
+  pub letter-of-none
+      : {x a : ℕ} {l : List ℕ} → true ≡ filled s → x ≡ byte s 0 → a ≡ byte s 1 → l ≡ arguments_of s
+      → false ≡ makes_call (order_by x a (length l) l) → None ≡ call_letter s
+  unfolding call_letter order_of arguments_of
+  letter-of-none f ex ea el made =
+      let so = sym f in
+      let m : false ≡ makes_call (order_by (byte s 0) (byte s 1) (byte s 2) (arguments_of s)) = made ∙ rw (ex, ea, el, counted so) refl in
+      rw (so, sym m) refl
+
+  pub letter-unfilled : false ≡ filled s → None ≡ call_letter s
   unfolding call_letter order_of makes_call
-  letter-of-none t f y = rw (sym f ∙ y) refl
+  letter-unfilled f = rw (sym f) refl
+
+  -- a record with a letter makes a call, and the letter is its first byte
+  lettered : {x : ℕ} → Some x ≡ call_letter s → (makes_call (order_of s) ≡ true) × (x ≡ byte s 0)
+  unfolding call_letter
+  lettered {x} e = go (makes_call (order_of s)) refl
+    where
+      go : (d : Bool) → makes_call (order_of s) ≡ d → (d ≡ true) × (x ≡ byte s 0)
+      go true m = let h : Some x ≡ Some (byte s 0) = e ∙ rw m refl in (refl, same_Some x (byte s 0) h)
+      go false m = absurd (none-some x (sym (e ∙ rw m refl)))
 
   -- a record whose call is known by the letter y makes the call that y stands for
   pub order_is
-      : {x a : ℕ} {l : List ℕ} (y : ℕ) (b : Bool) (c : Call) → x ≡ call_letter s → a ≡ byte s 1 → l ≡ arguments_of s
-      → x ≡ y → (y ≡ 0 → ⊥) → order_by y a (byte s 2) l ≡ only_if b c → order_of s ≡ call c
-  unfolding call_letter arguments_of
-  order_is {x} {a} {l} y b c ex ea el ey some h = go (makes_call (order_of s)) refl
+      : {a : ℕ} {l : List ℕ} (y : ℕ) (b : Bool) (c : Call) → Some y ≡ call_letter s → a ≡ byte s 1 → l ≡ arguments_of s
+      → order_by y a (byte s 2) l ≡ only_if b c → order_of s ≡ call c
+  unfolding arguments_of
+  order_is y b c ey ea el h = go (filled s) refl
     where
-      none_made : call_letter s ≡ 0 → ⊥
-      none_made e = some (sym ey ∙ ex ∙ e)
-
-      by : byte s 0 ≡ y → filled s ≡ true → order_of s ≡ only_if b c
-      by e f = unfold order_of in rw f (rw (e, sym ea, sym el) h)
-
       is : (d : Bool) → makes_call (only_if d c) ≡ true → only_if d c ≡ call c
       is true e = refl
       is false e = absurd (false≢true (unfold makes_call in e))
 
-      whole : (f : Bool) → filled s ≡ f → makes_call (order_of s) ≡ true → filled s ≡ true
-      whole true f e = f
-      whole false f e = absurd (none_made (sym (letter-of-none false (sym f) refl)))
+      by : filled s ≡ true → order_of s ≡ only_if b c
+      by f = unfold order_of in rw f (rw (sym ((lettered ey).1), sym ea, sym el) h)
 
-      go : (d : Bool) → makes_call (order_of s) ≡ d → order_of s ≡ call c
-      go true e =
-          let first : byte s 0 ≡ y = sym (rw e (unfold call_letter in refl)) ∙ sym ex ∙ ey in
-          let o = by first (whole (filled s) refl e) in
-          o ∙ is b (sym (ap makes_call o) ∙ e)
-      go false e = absurd (none_made (rw e refl))
+      go : (f : Bool) → filled s ≡ f → order_of s ≡ call c
+      go true f = by f ∙ is b (sym (ap makes_call (by f)) ∙ (lettered ey).0)
+      go false f = absurd (none-some _ (letter-unfilled (sym f) ∙ sym ey))
 
   -- and one whose call is known by no letter makes none
-  pub order-none : {x : ℕ} → x ≡ call_letter s → NoLetter x → (order_of s ≡ no_call) × (x ≡ 0)
+  pub order-none : None ≡ call_letter s → order_of s ≡ no_call
   unfolding call_letter
-  order-none {x} ex h = go (makes_call (order_of s)) refl
+  order-none e = unmade (order_of s) (go (makes_call (order_of s)) refl)
     where
-      none : (f : Bool) → filled s ≡ f → x ≡ byte s 0 → order_of s ≡ no_call
-      none true f e = unfold order_of in rw f (unknown (byte s 0) (byte s 1) (byte s 2) _ (rw e at h))
-      none false f e = unfold order_of in rw f refl
+      go : (d : Bool) → makes_call (order_of s) ≡ d → d ≡ false
+      go true m = absurd (none-some (byte s 0) (e ∙ rw m refl))
+      go false m = refl
 
-      go : (d : Bool) → makes_call (order_of s) ≡ d → (order_of s ≡ no_call) × (x ≡ 0)
-      go true e =
-          let o = none (filled s) refl (ex ∙ rw e refl) in
-          absurd (false≢true (sym (ap makes_call o ∙ unfold makes_call in refl) ∙ e))
-      go false e = (unmade (order_of s) e, ex ∙ rw e refl)
+  -- no other letter makes a call
+  pub letter-known : {x : ℕ} → Some x ≡ call_letter s → NoLetter x → ⊥
+  letter-known {x} ex h = go (filled s) refl
+    where
+      none : filled s ≡ true → order_of s ≡ no_call
+      none f = unfold order_of in rw f (unknown (byte s 0) (byte s 1) (byte s 2) _ (rw ((lettered ex).1) at h))
+
+      go : (f : Bool) → filled s ≡ f → ⊥
+      go true f = false≢true (sym (ap makes_call (none f) ∙ unfold makes_call in refl) ∙ (lettered ex).0)
+      go false f = none-some _ (letter-unfilled (sym f) ∙ sym ex)

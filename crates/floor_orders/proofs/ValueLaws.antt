@@ -1,28 +1,32 @@
 -- What the arguments of a record say.
 -- Assumes nothing.
-use Prim.Native.Nat.{ℕ, zero, suc, ◌+◌, ◌-◌, ◌≤◌, ◌<◌}
+use Prim.Native.Nat.{ℕ, suc, ◌+◌, ◌-◌, ◌*◌, ◌<◌}
 use native.Mathlib.Omega.{arith}
-use mathlib.Core.Path.{◌≡◌, refl, ap, ◌∙◌, subst⁻¹}
+use mathlib.Core.Path.{◌≡◌, refl, ap, ◌∙◌}
+use mathlib.Core.Bool.{Bool, true, false}
 use mathlib.Core.List.{List, [], ◌∷◌}
-use lib.IntN.{ℤ, pos, negsuc, ◌-ℤ◌}
+use lib.IntN.{pos, negsuc}
+use borrow.Author.Tests.{ltb-true, ltb-false}
 use mir.Syntax.{w16}
-use mir.Val.{SFits, to_z}
-use mir.ValLaws.{to_z_pos}
+use mir.Val.{to_z}
+use Rattle.std.proofs.Math.Facts.{to_z_pos, to_z-neg}
+use Rattle.std.specs.Prelude.{if◌then◌else◌}
+use Rattle.lists.specs.Tests.{◌<?◌}
 use Rattle.rules.specs.declared.Pair.{Pair}
 use Rattle.rules.specs.Bytes.{byte}
-use Rattle.rules.specs.Floor.{request_of}
+use Rattle.rules.specs.Floor.{signed, request_of}
 
--- two bytes as a signed number, below 0
-minus_one : (m : ℕ) → negsuc 0 -ℤ pos m ≡ negsuc m
-minus_one zero = refl
-minus_one (suc m) = let e : suc (0 + m) ≡ suc m = omega arith in ap negsuc e
-
-module _ (n : ℕ) (high : 32768 ≤ n) (word : n < 65536) where
-  pub down : negsuc 0 -ℤ to_z w16 (65535 - n) ≡ negsuc (65535 - n)
-  down = ap (λ (z : ℤ). negsuc 0 -ℤ z) (to_z_pos w16 (65535 - n) (omega arith)) ∙ minus_one (65535 - n)
-
-  pub down_fits : SFits w16 (negsuc 0 -ℤ to_z w16 (65535 - n))
-  down_fits = subst⁻¹ (SFits w16) down (record { sfits = omega arith })
+-- two bytes as a signed number
+pub signed-is : (high low : ℕ) → high < 256 → low < 256 → to_z w16 (high * 256 + low) ≡ signed high low
+unfolding signed
+signed-is high low h l = go (high <? 128) refl
+  where
+    go : (b : Bool) → (high <? 128) ≡ b → to_z w16 (high * 256 + low) ≡ (if b then pos (high * 256 + low) else negsuc (65535 - (high * 256 + low)))
+    go true e = let k = ltb-true high 128 e in to_z_pos w16 (omega arith)
+    go false e =
+        let k = ltb-false high 128 e in
+        let n : high * 256 + low ≡ 65536 - suc (65535 - (high * 256 + low)) = omega arith in
+        ap (to_z w16) n ∙ to_z-neg w16 (65535 - (high * 256 + low)) (omega arith)
 
 -- the pair at a place of the bytes
 abbrev pair_at : List ℕ → ℕ → Pair

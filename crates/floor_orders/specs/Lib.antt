@@ -1,3 +1,2 @@
--- What an order means, and bytes as one number.
+-- What an order means.
 pub mod Orders
-pub mod Words

@@ -1,5 +1,5 @@
 -- The letter of the call that a record makes, and the arguments of a record.
-use Rattle.std.specs.Prelude.{ℕ, Bool, true, false, List, length, take, drop}
+use Rattle.std.specs.Prelude.{ℕ, Bool, true, false, Option, Some, None, List, length, take, drop}
 use Rattle.lists.specs.Tests.{◌<?◌, ◌≤?◌}
 use Rattle.std.specs.Prelude.{if◌then◌else◌}
 use Rattle.rules.specs.Bytes.{byte}
@@ -17,6 +17,6 @@ unfoldable pub makes_call : Order → Bool
 makes_call (call c) = true
 makes_call no_call = false
 
--- the letter of a record that makes a call, 0 of one that makes none
-unfoldable pub call_letter : List ℕ → ℕ
-call_letter r = if makes_call (order_of r) then byte r 0 else 0
+-- the letter of a record that makes a call
+unfoldable pub call_letter : List ℕ → Option ℕ
+call_letter r = if makes_call (order_of r) then Some (byte r 0) else None

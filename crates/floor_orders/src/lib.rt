@@ -2,10 +2,10 @@
 // What a record makes stands in `rules`, specs/Floor.antt.
 #![tactic(auto)]
 
-mod blanks;
 pub mod values;
 
-ghost use Rattle.std.specs.Prelude.{◌≡◌, length};
+ghost use Rattle.std.specs.Prelude.{◌≡◌, ◌==◌, length};
+ghost use Rattle.std.specs.List.{list_all};
 ghost use Rattle.rules.specs.Floor.{filled, order_by};
 ghost use Rattle.floor_orders.specs.Orders.{arguments_of, marks_help, makes_call, call_letter};
 
@@ -19,6 +19,13 @@ pub fn arguments(bytes: &[u8]) -> &[u8]
     first(from(bytes, 3), n)
 }
 
+// All of the bytes are 00.
+fn are_blank(bytes: &[u8]) -> bool
+    ensures { result ≡ list_all (λ x. x == 0) bytes.now }
+{
+    bytes.iter().all(|b| *b == 0)
+}
+
 // The record is whole, counts at most 20 arguments, and holds 00 behind them.
 fn is_filled(bytes: &[u8]) -> bool
     ensures { result ≡ filled bytes.now }
@@ -26,21 +33,19 @@ fn is_filled(bytes: &[u8]) -> bool
     if bytes.len() != 24 {
         return false;
     }
-    let n = bytes[2];
+    let n = bytes[2] as usize;
     if 20 < n {
         return false;
     }
-    blanks::blank_from(bytes, n as usize + 3)
+    are_blank(from(bytes, n + 3))
 }
 
 // A help mark, 0 or 1, stands first.
+#[tactic(auto, unfolding(crate::specs::Orders::marks_help))]
 fn marks_help(arguments: &[u8]) -> bool
     ensures { result ≡ marks_help arguments.now }
 {
-    if 0 < arguments.len() {
-        return arguments[0] <= 1;
-    }
-    false
+    arguments.first().is_some_and(|mark| *mark <= 1)
 }
 
 // The letter is known, and takes this applet, or none, 0, and these arguments.
@@ -61,15 +66,15 @@ fn is_call(letter: u8, applet: u8, arguments: &[u8]) -> bool
     }
 }
 
-// The letter of the call that a record makes, 0 where it makes none; any bytes are a record, and all but 24 make none.
-pub fn call_letter(bytes: &[u8]) -> u8
+// The letter of the call that a record makes, if it makes one; any bytes are a record, and all but 24 make none. Its letter names a call, for
+// the line shows it also where none is made.
+pub fn call_letter(bytes: &[u8]) -> Option<u8>
     ensures { result ≡ call_letter bytes.now }
 {
-    if is_filled(bytes) {
-        let letter = byte_at(bytes, 0);
-        if is_call(letter, byte_at(bytes, 1), arguments(bytes)) {
-            return letter;
-        }
+    let letter = byte_at(bytes, 0);
+    if is_filled(bytes) && is_call(letter, byte_at(bytes, 1), arguments(bytes)) {
+        Some(letter)
+    } else {
+        None
     }
-    0
 }

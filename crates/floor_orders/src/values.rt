@@ -10,12 +10,7 @@ use texts::byte_at;
 pub fn signed_of(high: u8, low: u8) -> i16
     ensures { result ≡ signed high low }
 {
-    let n: u16 = (high as u16) * 256 + (low as u16);
-    if high < 128 {
-        n as i16
-    } else {
-        -1 - ((65535 - n) as i16)
-    }
+    i16::from_be_bytes([high, low])
 }
 
 // The event value that bytes start with, high byte first.
@@ -39,6 +34,7 @@ fn pair_at(s: &[u8], at: usize) -> Pair
 pub fn request(bytes: &[u8]) -> Request
     ensures { result ≡ request_of bytes.now }
 {
+    // fewer bytes stand for 0 behind them
     let pairs = [
         pair_at(bytes, 4),
         pair_at(bytes, 6),
@@ -50,6 +46,6 @@ pub fn request(bytes: &[u8]) -> Request
         timers: byte_at(bytes, 1),
         entries: byte_at(bytes, 2),
         text: byte_at(bytes, 3),
-        pairs: pairs,
+        pairs,
     }
 }

@@ -3,13 +3,12 @@
 use Prim.Native.Nat.{ℕ, zero, suc}
 use Prim.Native.Char.{code}
 use mathlib.Core.Path.{◌≡◌, refl, sym, ap, ◌∙◌}
-use mathlib.Core.Bool.{Bool, false, ◌&&◌}
+use mathlib.Core.Bool.{Bool, ◌&&◌}
 use mathlib.Core.List.{List, [], ◌∷◌}
 use lib.ListN.{length, take, drop, replicate, length-replicate}
 use lib.Seq.{take-append_seam}
-use borrow.Author.Tests.{eqb-false}
 use Rattle.lists.specs.Tests.{◌<?◌}
-use Rattle.std.specs.Prelude.{if◌then◌else◌, ◌==◌}
+use Rattle.std.specs.Prelude.{Option, Some, None, if◌then◌else◌, ◌==◌}
 use Rattle.lists.specs.Lists.{some?, in?}
 use Rattle.lists.specs.Text.{ascii}
 use Rattle.lists.specs.Wrote.{Wrote}
@@ -31,7 +30,7 @@ use Rattle.card.specs.View.{view, stored, Left}
 use Rattle.card.specs.Replies.{replied}
 use Rattle.card.proofs.Left.{left-form}
 use Rattle.floor_orders.specs.Orders.{arguments_of, call_letter}
-use Rattle.floor_orders.proofs.OrderLaws.{NoLetter, order_is, order-none}
+use Rattle.floor_orders.proofs.OrderLaws.{NoLetter, order_is, order-none, letter-known}
 use Rattle.floor_answers.specs.Shown.{shown_by, line_by}
 
 -- what a system command does does not depend on what stood in the buffer
@@ -57,7 +56,7 @@ module _ (m : Model) (b c : List ℕ) where
   step_same e = rw (refusal-same e) (outcome-same (refusal m (system_command c)))
 
 -- WHAT WAS MADE OF A RECORD: the card and the line are those of the rules, and the lent buffer is as long as it was.
-pub record Made (m : Model) (s : List ℕ) (call : ℕ) (end : List ℕ) (r : Reply) : Type 0 where
+pub record Made (m : Model) (s : List ℕ) (call : Option ℕ) (end : List ℕ) (r : Reply) : Type 0 where
   pub card : (k letter : ℕ) → r.card ≡ stored (floor.obey k letter m (order_of s)).card
   pub line : (k letter : ℕ) → line_by k letter call r.answer end ≡ (floor.obey k letter m (order_of s)).line
   pub long : length end ≡ 256
@@ -66,42 +65,42 @@ abbrev blank : List ℕ
 blank = replicate 256 0
 
 -- what was read of a record before its call is made: the letter of the call, the applet and the arguments; the buffer is 256 bytes
-pub record Heard (c : Card) (s : List ℕ) (x a : ℕ) (l buffer : List ℕ) : Type 0 where
+pub record Heard (c : Card) (s : List ℕ) (x : Option ℕ) (a : ℕ) (l buffer : List ℕ) : Type 0 where
   pub left : Left c
   pub letter : x ≡ call_letter s
   pub applet : a ≡ byte s 1
   pub arguments : l ≡ arguments_of s
   pub wide : length buffer ≡ 256
 
-module _ {c : Card} {s : List ℕ} {x a : ℕ} {l buffer : List ℕ} (heard : Heard c s x a l buffer) where
-  makes : (y : ℕ) (b : Bool) (q : Call) → x ≡ y → (y == 0) ≡ false → order_by y a (byte s 2) l ≡ only_if b q → order_of s ≡ floor.call q
-  makes y b q e some is = order_is s y b q heard.letter heard.applet heard.arguments e (eqb-false y 0 some) is
+module _ {c : Card} {s : List ℕ} {x : Option ℕ} {a : ℕ} {l buffer : List ℕ} (heard : Heard c s x a l buffer) where
+  makes : (y : ℕ) (b : Bool) (q : Call) → x ≡ Some y → order_by y a (byte s 2) l ≡ only_if b q → order_of s ≡ floor.call q
+  makes y b q e is = order_is s y b q (sym e ∙ heard.letter) heard.applet heard.arguments is
 
-module _ {c : Card} {s : List ℕ} {x a : ℕ} {l buffer : List ℕ} (heard : Heard c s x a l buffer) {end : List ℕ} {p r : Reply} where
+module _ {c : Card} {s : List ℕ} {x : Option ℕ} {a : ℕ} {l buffer : List ℕ} (heard : Heard c s x a l buffer) {end : List ℕ} {p r : Reply} where
   -- the call q that the letter y stands for, and what is shown of its answer
   pub made-call
-      : (y : ℕ) (b : Bool) (q : Call) → x ≡ y → (y == 0) ≡ false → order_by y a (byte s 2) l ≡ only_if b q → shown_by y (stored_answer (step (view c) q).answer) end ≡ shown_answer q (step (view c) q)
+      : (y : ℕ) (b : Bool) (q : Call) → x ≡ Some y → order_by y a (byte s 2) l ≡ only_if b q → shown_by y (stored_answer (step (view c) q).answer) end ≡ shown_answer q (step (view c) q)
       → p ≡ replied (step (view c) q) → end ≡ buffer → r ≡ p → Made (view c) s x end r
   unfolding floor.obey obeyed replied stored_answer line_by
-  made-call y b q e some is shown g k same =
+  made-call y b q e is shown g k same =
       let o = step (view c) q in
-      let order = makes heard y b q e some is in
+      let order = makes heard y b q e is in
       record {
         card = λ i j. rw (order, same, g) refl;
-        line = λ i j. rw (order, same, g, e, some) (ap (λ (t : List ℕ). line_of i j (decimal o.answer.refusal) (if o.answer.refusal == 0 then t else [])) shown);
+        line = λ i j. rw (order, same, g, e) (ap (λ (t : List ℕ). line_of i j (decimal o.answer.refusal) (if o.answer.refusal == 0 then t else [])) shown);
         long = ap length k ∙ heard.wide;
       }
 
   -- the system command, into the buffer as it stands
   pub made-command
-      : {d : List ℕ} → x ≡ code "W" → (p ≡ replied (step (view c) (system_command buffer))) × (d ≡ (step (view c) (system_command buffer)).buffer) → length d ≡ length buffer → end ≡ d → r ≡ p
+      : {d : List ℕ} → x ≡ Some (code "W") → (p ≡ replied (step (view c) (system_command buffer))) × (d ≡ (step (view c) (system_command buffer)).buffer) → length d ≡ length buffer → end ≡ d → r ≡ p
       → Made (view c) s x end r
   unfolding floor.obey obeyed replied stored_answer line_by shown_by in? some? ascii shown_answer order_by
   made-command e g h k same =
       let o = step (view c) (system_command buffer) in
       let n = step (view c) (system_command blank) in
       let alike = step_same (view c) buffer blank (heard.wide ∙ sym (length-replicate {A = ℕ} 256 0)) in
-      let order = makes heard (code "W") (byte s 2 == 0 && a == 0) (system_command blank) e refl refl in
+      let order = makes heard (code "W") (byte s 2 == 0 && a == 0) (system_command blank) e refl in
       record {
         card = λ i j. rw (order, same, g.0) (ap stored alike.after);
         line =
@@ -112,15 +111,20 @@ module _ {c : Card} {s : List ℕ} {x a : ℕ} {l buffer : List ℕ} (heard : He
       }
 
   -- and no call
-  pub made_none : NoLetter x → p ≡ record { card = c; answer = stored_answer accepted } → end ≡ buffer → r ≡ p → Made (view c) s x end r
+  pub made_none : x ≡ None → p ≡ record { card = c; answer = stored_answer accepted } → end ≡ buffer → r ≡ p → Made (view c) s x end r
   unfolding floor.obey line_by
-  made_none unlike g k same =
-      let none = order-none s heard.letter unlike in
+  made_none e g k same =
+      let none = order-none s (sym e ∙ heard.letter) in
       record {
-        card = λ i j. rw (none.0, same, g) (left-form c heard.left);
-        line = λ i j. rw (none.0, none.1) refl;
+        card = λ i j. rw (none, same, g) (left-form c heard.left);
+        line = λ i j. rw (none, e) refl;
         long = ap length k ∙ heard.wide;
       }
+
+-- for no other letter is a call made
+pub unheard
+    : {c : Card} {s : List ℕ} {x : Option ℕ} {a : ℕ} {l buffer : List ℕ} {y : ℕ} → Heard c s x a l buffer → x ≡ Some y → NoLetter y → ⊥
+unheard {s = s} heard e = letter-known s (sym e ∙ heard.letter)
 
 -- what the rules say of a record: the card that holds the model it leaves, and its line at the front of b, which is d afterwards
 pub record Obeys (o : floor.Obeyed) (b d : List ℕ) (card : Card) (n : ℕ) : Type 0 where
@@ -129,7 +133,7 @@ pub record Obeys (o : floor.Obeyed) (b d : List ℕ) (card : Card) (n : ℕ) : T
 
 -- THE RECORD ITSELF
 pub at-record
-    : (k : ℕ) {letter call : ℕ} {m : Model} (s : List ℕ) {end : List ℕ} {p : Reply} {b d : List ℕ} {n : ℕ}
+    : (k : ℕ) {letter : ℕ} {call : Option ℕ} {m : Model} (s : List ℕ) {end : List ℕ} {p : Reply} {b d : List ℕ} {n : ℕ}
     → letter ≡ byte s 0 → Made m s call end p → Wrote b 0 (line_by k letter call p.answer end) d n → Obeys (step_line k m s) b d p.card n
 unfolding step_line
 at-record k s e g w = record { same = g.card k (byte s 0); wrote = wrote_as (rw e (g.line k (byte s 0))) w }

@@ -4,11 +4,11 @@ use Prim.Native.Nat.{ℕ}
 use mathlib.Core.Path.{◌≡◌, refl, ap, ◌∙◌}
 use mathlib.Core.Bool.{Bool, true, false}
 use mathlib.Core.List.{List, [], ◌∷◌}
-use Rattle.std.specs.Prelude.{if◌then◌else◌}
+use Rattle.std.specs.Prelude.{Ok, if◌then◌else◌}
 use Rattle.lists.specs.Lists.{in?}
 use Rattle.rules.specs.declared.Command.TheVariants.{Plain}
 use Rattle.rules.specs.Holds.{Desk, Model}
-use Rattle.rules.specs.Envelopes.{command_of, bad_command, system_type}
+use Rattle.rules.specs.Envelopes.{command_of, system_type}
 use Rattle.rules.specs.Desk.{with_outstanding}
 use Rattle.rules.specs.Calls.{Outcome, accepted, proactive, send, response}
 use Rattle.rules.specs.Refusals.{first_holding, absent, foreign_timer, proactive_lines, lines, refusal}
@@ -17,9 +17,9 @@ use Rattle.rules.proofs.DueMarks.{marked-same}
 use Rattle.history.proofs.Answered.{passes, gives}
 
 -- A COMMAND OF ANOTHER TYPE THAN TIMER MANAGEMENT, by an applet that is there, with none outstanding: it gets 17 just for the four types.
-pub send-gets-17 : (m : Model) (n : ℕ) (bytes : List ℕ) (type : ℕ) → command_of bytes ≡ Plain type → absent m.tables n ≡ false → m.desk.outstanding ≡ false
+pub send-gets-17 : (m : Model) (n : ℕ) (bytes : List ℕ) (type : ℕ) → command_of bytes ≡ Ok (Plain type) → absent m.tables n ≡ false → m.desk.outstanding ≡ false
     → (step m (proactive (send n bytes))).answer.refusal ≡ (if in? type (0x25 ∷ 0x05 ∷ 0x03 ∷ 0x04 ∷ []) then 17 else 0)
-unfolding refusal lines proactive_lines first_holding bad_command foreign_timer system_type
+unfolding refusal lines proactive_lines first_holding foreign_timer system_type
 send-gets-17 m n bytes type is here none =
     gives m (proactive (send n bytes)) ∙ rw (is, here, none) refl
 

@@ -7,12 +7,13 @@ use mathlib.Core.Bool.{Bool, true, false, not, ◌&&◌}
 use mathlib.Core.List.{List, [], ◌∷◌}
 use lib.ListN.{length}
 use borrow.Author.Tests.{eqb-true, ne_eqb}
-use Rattle.std.specs.Prelude.{if◌then◌else◌, ◌==◌}
+use Rattle.std.specs.Prelude.{Result, Ok, Err, if◌then◌else◌, ◌==◌}
 use Rattle.lists.proofs.Decided.{clashing}
 use Rattle.rules.specs.declared.Kind.{Kind}
 use Rattle.rules.specs.declared.Kind.TheVariants.{Event, Issuer, Reserved, Unsupported}
 use Rattle.rules.specs.declared.Envelope.{Envelope}
-use Rattle.rules.specs.declared.Envelope.TheVariants.{Menu, Call as CallControl, Download, Expiry, Unrecognized, Malformed}
+use Rattle.rules.specs.declared.Envelope.TheVariants.{Menu, Call as CallControl, Download, Expiry, Unrecognized}
+use Rattle.rules.specs.declared.Malformed.{Malformed}
 use Rattle.rules.specs.Holds.{Arrival, event, choice, help, expiry, status, nothing}
 use Rattle.rules.specs.Events.{codes, named, kind_of_code, handler_available}
 use Rattle.rules.specs.Envelopes.{envelope_of}
@@ -53,15 +54,15 @@ download-below code Issuer q = omega arith
 download-below code Reserved q = omega arith
 download-below code Unsupported q = omega arith
 
-envelope-below : (x : Envelope) → place_of (arrival_of x) < 19
+envelope-below : (x : Result Envelope Malformed) → place_of (arrival_of x) < 19
 unfolding arrival_of
-envelope-below (Menu item false) = omega arith
-envelope-below (Menu item true) = omega arith
-envelope-below CallControl = omega arith
-envelope-below (Download code) = download-below code (kind_of_code code) refl
-envelope-below (Expiry k) = omega arith
-envelope-below Unrecognized = omega arith
-envelope-below Malformed = omega arith
+envelope-below (Ok (Menu item false)) = omega arith
+envelope-below (Ok (Menu item true)) = omega arith
+envelope-below (Ok CallControl) = omega arith
+envelope-below (Ok (Download code)) = download-below code (kind_of_code code) refl
+envelope-below (Ok (Expiry k)) = omega arith
+envelope-below (Ok Unrecognized) = omega arith
+envelope-below (Err m) = omega arith
 
 -- ONLY A SETTLED MOMENT ARRIVES AS THAT EVENT: no envelope does, whatever its bytes, no profile and no STATUS.
 pub only-settled-arrives-so : (c : ArrivalCall) → arrived_with c ≡ settled_arrival → c ≡ settled

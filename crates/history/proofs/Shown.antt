@@ -5,6 +5,7 @@ use native.Mathlib.Omega.{arith}
 use mathlib.Core.Path.{◌≡◌, refl, sym, ap, ◌∙◌}
 use mathlib.Core.Bool.{Bool, true, false, ◌&&◌}
 use mathlib.Core.List.{List, [], ◌∷◌, map, map_congr_left}
+use Rattle.std.specs.Prelude.{Ok}
 use Rattle.lists.specs.Lists.{Every, some?, count, keep, in?, smallest}
 use Rattle.lists.proofs.Alike.{keep-alike}
 use Rattle.lists.proofs.Counts.{count-is, count-keep, count-missed, count-some}
@@ -43,7 +44,7 @@ some-counted p l q k e = go (some? p l) (some? q k) refl refl
 -- each code of the list arrives as the event of its place, of which the first is e
 Placed : ℕ → List ℕ → Type 0
 Placed e [] = Unit
-Placed e (c ∷ l) = (arrival_of (Download c) ≡ event e) × Placed (suc e) l
+Placed e (c ∷ l) = (arrival_of (Ok (Download c)) ≡ event e) × Placed (suc e) l
 
 placed : Placed first_download codes
 unfolding Placed codes arrival_of download kind_of_code named
@@ -77,7 +78,7 @@ module _ (t : Tables) (h : History) (s : SoundTables t) (g : AgreeTables t h) (f
       ∙ sym (map-length number_of (in_order (keep (Wanted e) t.applets)))
       ∙ length-due (callable t (event e)) (is_callable h (event e)) (callable-in-order t h s g (event e)).once (λ n q. few n (callable-there t h s g (event e) n q)))
 
-  from_named : (e : ℕ) (l : List ℕ) → Placed e l → shown_from t e l ≡ keep (λ code. some? (is_callable h (arrival_of (Download code))) one_to_eight) l
+  from_named : (e : ℕ) (l : List ℕ) → Placed e l → shown_from t e l ≡ keep (λ code. some? (is_callable h (arrival_of (Ok (Download code)))) one_to_eight) l
   unfolding Placed shown_from keep
   from_named e [] p = refl
   from_named e (c ∷ l) p = rw (p.0, listened-named e, from_named (suc e) l p.1) refl

@@ -1,7 +1,7 @@
 -- What the terminal was handed, by looking back over the calls, their answers and what they left in the lent buffers; and what the
 -- history wants there.
 use Rattle.std.specs.Prelude.{ℕ, Bool, ◌&&◌, ◌||◌, List, [], ◌∷◌, ◌++◌, map, take, drop}
-use Rattle.std.specs.Prelude.{if◌then◌else◌, ◌==◌}
+use Rattle.std.specs.Prelude.{if◌then◌else◌, ◌==◌, Ok}
 use Rattle.lists.specs.Lists.{some?, keep, first, same?, smallest}
 use Rattle.rules.specs.declared.Envelope.TheVariants.{Download}
 use Rattle.rules.specs.Holds.{Row, document, status}
@@ -83,7 +83,7 @@ is_shown h r = r.enabled && is_selectable r.owner h
 
 -- The codes that it wants: those for whose download some selectable applet is registered.
 unfoldable pub codes_named : History → List ℕ
-codes_named h = keep (λ code. some? (is_callable h (arrival_of (Download code))) one_to_eight) codes
+codes_named h = keep (λ code. some? (is_callable h (arrival_of (Ok (Download code)))) one_to_eight) codes
 
 -- The system interval that it names, in seconds: the smallest request of a selectable applet; 0 where there is none.
 unfoldable pub interval_named : History → ℕ

@@ -34,3 +34,4 @@ pub mod Smallest
 pub mod Least
 pub mod Signed
 pub mod Chosen
+pub mod Chains

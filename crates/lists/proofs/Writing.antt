@@ -1,12 +1,11 @@
--- Laws of writing into a lent buffer: one behind the other, and a loop that copies.
+-- Laws of writing into a lent buffer: one behind the other.
 -- Assumes nothing.
-use Prim.Native.Nat.{ℕ, zero, suc, ◌+◌, ◌-◌, ◌≤◌, ◌<◌}
+use Prim.Native.Nat.{ℕ, zero, suc, ◌+◌, ◌-◌, ◌≤◌}
 use native.Mathlib.Omega.{arith}
-use native.Mathlib.Numerals.{add-one}
 use mathlib.Core.Path.{◌≡◌, refl, sym, ap, ◌∙◌}
 use mathlib.Core.List.{List, [], ◌++◌, append_assoc}
-use lib.ListN.{length, take, drop, get_or, replicate, length-append, take-append-drop, set, length-set}
-use lib.Seq.{length-take-le, take_at, drop_at, paste, take-length, drop-drop, paste-zero, paste-suc}
+use lib.ListN.{length, take, drop, replicate, length-append, take-append-drop}
+use lib.Seq.{length-take-le, take_at, drop_at, drop-drop}
 use Rattle.lists.specs.Lists.{padded}
 use Rattle.lists.specs.Wrote.{put_at, Wrote}
 
@@ -27,10 +26,6 @@ module _ (b : List ℕ) (at : ℕ) (s : List ℕ) (fits : at + length s ≤ leng
       in
       rw (e, take_at (take at b ++ s) _ (at + length s) front, d) (simp append_assoc)
 
-put-paste : (b : List ℕ) (at : ℕ) (s : List ℕ) (i : ℕ) → i ≡ length s → paste b at s i ≡ put_at b at s
-unfolding put_at
-put-paste b at s i e = rw (e, take-length) (append_assoc (take at b) s (drop (at + length s) b))
-
 -- written, and then what stands behind it
 pub Wrote-then
     : {b : List ℕ} {at : ℕ} {s c t d : List ℕ} {n k : ℕ}
@@ -47,27 +42,6 @@ unfolding put_at
 wrote_none b at =
     let z : at ≡ at + 0 = omega arith in
     record { next = z; after = sym (take-append-drop at b) ∙ ap (λ n. take at b ++ drop n b) z; long = refl }
-
--- a loop that has copied the first i bytes of s
-pub record Copied (b : List ℕ) (at : ℕ) (s : List ℕ) (i : ℕ) (c : List ℕ) : Type 0 where
-  pub within : i ≤ length s
-  pub form : c ≡ paste b at s i
-  pub long : length c ≡ length b
-
-pub copied_none : (b : List ℕ) (at : ℕ) (s : List ℕ) → Copied b at s 0 b
-copied_none b at s = record { within = omega arith; form = paste-zero b at s; long = refl }
-
-module _ (b : List ℕ) (at : ℕ) (s : List ℕ) (fits : at + length s ≤ length b) where
-  pub copied_more : (i : ℕ) (c : List ℕ) → i < length s → Copied b at s i c → Copied b at s (i + 1) (set c (at + i) (get_or s i 0))
-  copied_more i c h o =
-      record {
-        within = omega arith;
-        form = rw (o.form, add-one) (paste-suc b at s i 0 (omega arith) h);
-        long = simp length-set o.long;
-      }
-
-  pub copied_all : (i : ℕ) (c : List ℕ) → length s ≤ i → Copied b at s i c → Wrote b at s c (at + length s)
-  copied_all i c h o = let e : i ≡ length s = omega (arith, o.within) in record { next = refl; after = o.form ∙ put-paste b at s i e; long = o.long }
 
 -- what was written, said otherwise
 pub wrote_as : {b : List ℕ} {at : ℕ} {s t c : List ℕ} {n : ℕ} → s ≡ t → Wrote b at s c n → Wrote b at t c n

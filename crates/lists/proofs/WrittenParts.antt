@@ -1,11 +1,11 @@
 -- Laws of what was written at the front of a buffer, or of a part of one.
 -- Assumes nothing.
-use Prim.Native.Nat.{ℕ, ◌+◌, ◌≤◌}
+use Prim.Native.Nat.{ℕ, ◌+◌, ◌-◌, ◌≤◌}
 use native.Mathlib.Omega.{arith}
-use mathlib.Core.Path.{◌≡◌, sym, ap, ◌∙◌}
+use mathlib.Core.Path.{◌≡◌, refl, sym, ap, ◌∙◌}
 use mathlib.Core.List.{List, ◌++◌, append_assoc}
-use lib.ListN.{length, take, drop, length-append, take-append-drop}
-use lib.Seq.{take_at, drop-append-le, drop-drop}
+use lib.ListN.{length, take, drop, length-append, length-drop, take-append-drop}
+use lib.Seq.{length-take-le, take_at, drop-append-le, drop-drop}
 use borrow.Rule.Slice.PartMut.{put_mid, same_len_mid}
 use Rattle.lists.specs.Wrote.{put_at, Wrote}
 
@@ -35,4 +35,17 @@ wrote-part c at k {s} {d} w =
       next = omega (arith, w.next);
       after = ap (λ l. take at c ++ l) (ap (λ l. l ++ behind) f ∙ append_assoc s (drop (length s) part) behind ∙ ap (λ l. s ++ l) g);
       long = same_len_mid at k c d w.long;
+    }
+
+-- what was copied over a part that is as long
+pub wrote_over : (c : List ℕ) (at : ℕ) (s : List ℕ) {d : List ℕ} → at + length s ≤ length c → d ≡ s → Wrote c at s (put_mid at (at + length s - at) c d) (at + length s)
+unfolding put_at
+wrote_over c at s {d} h e =
+    let k : at + length s - at ≡ length s = omega arith in
+    let g : drop (at + length s - at) (drop at c) ≡ drop (at + length s) c = ap (λ n. drop n (drop at c)) k ∙ drop-drop (length s) at c in
+    let a : put_mid at (at + length s - at) c d ≡ put_at c at s = ap (λ l. take at c ++ l) (ap (λ l. l ++ drop (at + length s - at) (drop at c)) e ∙ ap (λ l. s ++ l) g) in
+    record {
+      next = refl;
+      after = a;
+      long = same_len_mid at (at + length s - at) c d (omega (arith, ap length e, length-take-le (at + length s - at) (drop at c) (omega (arith, length-drop at c))));
     }

@@ -6,6 +6,7 @@ use mathlib.Core.Path.{◌≡◌, refl, sym, ap, ◌∙◌}
 use mathlib.Core.Bool.{Bool, not}
 use mathlib.Core.List.{List, map}
 use lib.ListN.{length, take, set, length-take}
+use lib.Seq.{take_all}
 use borrow.Author.Tests.{lt-ltb, le-ltb}
 use Rattle.std.specs.Prelude.{◌==◌}
 use Rattle.lists.specs.Lists.{padded, index_of, keep, some?, insert_at}
@@ -109,9 +110,10 @@ inserted-full p x l h = rw (le-ltb (length l) 12 h) refl
 abbrev pub not_of : (owner : ℕ) → held.Row → Bool
 not_of n x = not (x.owner == n)
 
-pub keeps : (s : Rows) (n k : ℕ) (at : List held.Row) → TidyRows s → Kept 12 blank (not_of n) s.at s.count at k → ◌≡◌ {A = Rows} (record { at = at; count = k }) (stored_rows (without_rows n (view_rows s)))
+pub keeps : (s left : Rows) (n i : ℕ) → TidyRows s → Kept 12 blank (not_of n) (take s.count s.at) i left.at left.count → length (take s.count s.at) ≤ i → left ≡ stored_rows (without_rows n (view_rows s))
 unfolding stored_row without_rows
-keeps s n k at t o =
+keeps s left n i t o h =
     let l = view_rows s in
-    let a : keep (not_of n) (take s.count s.at) ≡ map stored_row (without_rows n l) = ap (keep (not_of n)) (held-is s t) ∙ sym (map-keep stored_row (not_of n) l) in
+    let w : take i (take s.count s.at) ≡ map stored_row l = take_all i (take s.count s.at) h ∙ held-is s t in
+    let a : keep (not_of n) (take i (take s.count s.at)) ≡ map stored_row (without_rows n l) = ap (keep (not_of n)) w ∙ sym (map-keep stored_row (not_of n) l) in
     stands (without_rows n l) (o.form ∙ ap (padded 12 blank) a) (o.many ∙ ap length a ∙ map-length stored_row (without_rows n l))

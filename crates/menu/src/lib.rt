@@ -1,33 +1,37 @@
 // The menu list, by value: at most 12 rows. Where a new one stands, and the list without those of an applet, closed up.
+// `Rows` is a struct of the C interface, and `stored_rows` gives one of any list: that rows are tidy is asked, not its invariant.
 #![tactic(auto)]
 
-ghost use Rattle.std.specs.Prelude.{◌≡◌, []};
+ghost use Rattle.std.specs.Prelude.{◌≡◌, [], take};
 ghost use Rattle.rules.specs.Rows.{place, without_rows};
-ghost use Rattle.rules.specs.Held.{stored_row, no_row, view_rows, stored_rows, TidyRows};
+ghost use Rattle.rules.specs.Held.{view_rows, stored_rows, TidyRows};
 
 use rules::{Row, Rows};
 
-// The row that stands where there is none.
-fn no_row() -> Row
-    ensures { result ≡ stored_row no_row }
+// The menu list of a fresh card.
+pub fn no_rows() -> Rows
+    ensures { result ≡ stored_rows [] }
 {
-    Row {
+    let none = Row {
         identifier: 0,
         owner: 0,
         help: false,
         enabled: false,
         text: [0; Row::TEXT],
         len: 0,
+    };
+    Rows {
+        at: [none; Rows::MOST],
+        count: 0,
     }
 }
 
-// The menu list of a fresh card.
-pub fn no_rows() -> Rows
-    ensures { result ≡ stored_rows [] }
+// The rows of the list, without the places behind them.
+pub fn listed(rows: &Rows) -> &[Row]
+    requires { TidyRows rows.now }
+    ensures { result.now ≡ take rows.now.count rows.now.at }
 {
-    let row = no_row();
-    let at = [row; Rows::MOST];
-    Rows { at, count: 0 }
+    &rows.at[..usize::from(rows.count)]
 }
 
 // The index of a requested position among n rows.
@@ -37,7 +41,7 @@ pub fn place_of(position: u8, n: usize) -> usize
     if position == 0 {
         return n;
     }
-    let p = position as usize;
+    let p = usize::from(position);
     if p <= n {
         return p - 1;
     }
@@ -49,18 +53,12 @@ pub fn without(rows: Rows, applet: u8) -> Rows
     requires { TidyRows rows }
     ensures { result ≡ stored_rows (without_rows applet (view_rows rows)) }
 {
-    let n = rows.count as usize;
-    let none = no_row();
-    let mut at = [none; Rows::MOST];
-    let mut k: usize = 0;
-    let mut i = 0;
-    while i < n {
-        let row = rows.at[i];
+    let mut left = no_rows();
+    for row in listed(&rows) {
         if row.owner != applet {
-            at[k] = row;
-            k += 1;
+            left.at[usize::from(left.count)] = *row;
+            left.count += 1;
         }
-        i += 1;
     }
-    Rows { at, count: k as u8 }
+    left
 }

@@ -2,24 +2,23 @@
 -- Assumes nothing.
 use Prim.Native.Nat.{ℕ, ◌≤◌, ◌<◌}
 use native.Mathlib.Omega.{arith}
-use mathlib.Core.Path.{◌≡◌, refl, sym, ap, ap₂, ◌∙◌}
+use mathlib.Core.Path.{◌≡◌, refl, sym, ap, ◌∙◌}
 use mathlib.Core.Bool.{Bool, true, false, not, beq, ◌&&◌}
 use mathlib.Core.List.{List, map}
-use lib.ListN.{length, take, get_or, set}
-use borrow.Author.Tests.{ltb-true, ltb-false}
-use Rattle.lists.specs.Tests.{◌<?◌}
-use Rattle.std.specs.Prelude.{◌==◌}
+use lib.ListN.{length, take, get_or, set, length-take}
+use borrow.Author.Tests.{lt-ltb, le-ltb}
+use Rattle.std.specs.Prelude.{◌==◌, Some, None}
+use Rattle.std.specs.List.{position}
+use Rattle.lists.proofs.Chains.{found-index, found-nowhere}
 use Rattle.lists.specs.Lists.{padded, some?, first, index_of, change}
-use Rattle.lists.proofs.Search.{Sought, sought-hit, some_is, changed-at, change-none, length-change}
-use Rattle.lists.proofs.Looking.{sought-end}
-use Rattle.lists.proofs.Truth.{and_right, and-true}
-use Rattle.lists.proofs.Mapped.{map-change}
+use Rattle.lists.proofs.Search.{some_is, changed-at, change-none, length-change}
+use Rattle.lists.proofs.Mapped.{map-change, map-length}
 use Rattle.rules.specs.declared.Row as held
 use Rattle.rules.specs.declared.Rows.{Rows}
 use Rattle.rules.specs.Holds.{Row}
 use Rattle.rules.specs.Held.{view_row, stored_row, no_row, view_rows, stored_rows, TidyRows}
 use Rattle.menu.specs.Table.{TidyRow}
-use Rattle.menu.proofs.Tidy.{blank, long, row_back, tidy-row, stands, at-is, count-is, index-viewed}
+use Rattle.menu.proofs.Tidy.{blank, row_back, tidy-row, stands, at-is, count-is, index-viewed}
 use Rattle.menu.proofs.Searches.{within, held-index, held_first, held_at}
 use Rattle.menu_shown.specs.Chosen.{turns_text, turns_enabled}
 use Rattle.menu_shown.proofs.Answers.{enabled-turns}
@@ -43,86 +42,84 @@ new-mark : {x : held.Row} (r : Row) {b : Bool} → x ≡ stored_row r → ◌≡
 unfolding stored_row
 new-mark r p = rw p refl
 
-pub in_array : (s : Rows) (k : ℕ) → TidyRows s → (k <? s.count) ≡ true → k < 12
-in_array s k t e = omega (arith, t.few, ltb-true k s.count e)
+-- The search for the row found none.
+module _ (s : Rows) (n i : ℕ) (t : TidyRows s) (p : None ≡ position (is_row n i) (take s.count s.at)) where
+  past : length (view_rows s) ≤ index_of (its_row n i) (view_rows s)
+  unfolding view_rows
+  past = omega (arith, found-nowhere (is_row n i) (take s.count s.at) p, its-viewed s n i, map-length view_row (take s.count s.at))
 
--- The search for the row left at k: behind the rows, or at the row.
-module _ (s : Rows) (n i k : ℕ) (t : TidyRows s) (o : Sought (is_row n i) s.at s.count k) where
-  held_all : s.count ≤ length s.at
-  held_all = omega (arith, long s t, t.few)
+  none-there : some? (its_row n i) (view_rows s) ≡ false
+  none-there = some_is (its_row n i) (view_rows s) ∙ le-ltb (index_of (its_row n i) (view_rows s)) (length (view_rows s)) past
 
-  pub at-end : s.count ≤ k → k ≡ index_of (its_row n i) (view_rows s)
-  at-end h = sym (sought-end (is_row n i) s.at s.count k held_all h o) ∙ its-viewed s n i
+  none-turned : (f : Row → Row) (turns : Row → Bool) → ◌≡◌ {A = Touched} (record { rows = s; its = false; turns = false }) (turned_by (its_row n i) f turns (view_rows s))
+  unfolding turned_by
+  none-turned f turns = rw (change-none (its_row n i) f (view_rows s) past, none-there, ← t.form) refl
 
-  pub at_row : (d : held.Row) → k < s.count → is_row n i (get_or s.at k d) ≡ true → k ≡ index_of (its_row n i) (view_rows s)
-  at_row d h e = sym (sought-hit (is_row n i) s.at s.count held_all k d h e o) ∙ its-viewed s n i
+  pub none-marked : (b : Bool) → ◌≡◌ {A = Touched} (record { rows = s; its = false; turns = false }) (marked_by n i b (view_rows s))
+  unfolding marked_by
+  none-marked b = none-turned (with_mark b) (turns_enabled b)
 
--- The search for the row came to k.
-module _ (s : Rows) (n i k : ℕ) (t : TidyRows s) (is : k ≡ index_of (its_row n i) (view_rows s)) where
+  pub none-reworded : (fits help : Bool) (text : List ℕ) → ◌≡◌ {A = Touched} (record { rows = s; its = false; turns = false }) (reworded_by n i fits help text (view_rows s))
+  unfolding reworded_by kept_by
+  none-reworded true help text = none-turned (with_words help (take 15 text)) (turns_text help text)
+  none-reworded false help text = rw (none-there, ← t.form) refl
+
+-- The search found the row at k.
+module _ (s : Rows) (n i k : ℕ) (t : TidyRows s) (p : Some k ≡ position (is_row n i) (take s.count s.at)) where
   abbrev l : List Row
   l = view_rows s
 
   abbrev own : Row
   own = first (its_row n i) no_row (view_rows s)
 
-  its-is : (k <? s.count) ≡ some? (its_row n i) l
-  its-is = ap₂ ◌<?◌ is (count-is s t) ∙ sym (some_is (its_row n i) l)
+  is : k ≡ index_of (its_row n i) (view_rows s)
+  is = (found-index (is_row n i) (take s.count s.at) p).0 ∙ its-viewed s n i
 
-  -- it came to the end: there is no such row
-  none-turned : (f : Row → Row) (turns : Row → Bool) → (k <? s.count) ≡ false → ◌≡◌ {A = Touched} (record { rows = s; its = k <? s.count; turns = false }) (turned_by (its_row n i) f turns l)
+  h : k < s.count
+  h = omega (arith, (found-index (is_row n i) (take s.count s.at) p).1, length-take s.count s.at)
+
+  its-there : some? (its_row n i) l ≡ true
+  its-there = some_is (its_row n i) l ∙ lt-ltb (index_of (its_row n i) l) (length l) (omega (arith, is, h, count-is s t))
+
+  own_at : (d : held.Row) → get_or s.at k d ≡ stored_row own
+  unfolding stored_row
+  own_at d = held_at s (is_row n i) k t is h d
+
+  changed-is : (f : Row → Row) (x : held.Row) → x ≡ stored_row (f own) → ◌≡◌ {A = Rows} (record { at = set s.at k x; count = s.count }) (stored_rows (change (its_row n i) f l))
+  unfolding stored_row
+  changed-is f x e =
+      let g : held.Row → held.Row = λ y. stored_row (f (view_row y)) in
+      let q : x ≡ g (first (is_row n i) blank (map stored_row l)) = e ∙ ap (λ (r : Row). stored_row (f r)) (sym (row_back own)) ∙ ap g (held_first s (is_row n i) k t is h) in
+      let c : s.count ≡ length (change (its_row n i) f l) = count-is s t ∙ sym (length-change (its_row n i) f l) in
+      stands (change (its_row n i) f l)
+      (changed-at 12 blank (is_row n i) (map stored_row l) s.at (at-is s t) k x g (held-index s (is_row n i) k t is h) (within s (is_row n i) k t is h) q ∙ ap (padded 12 blank) (sym (change-held n i f l)))
+      c
+
+  one-turned : (f : Row → Row) (turns : Row → Bool) (x : held.Row) {b : Bool} → x ≡ stored_row (f own) → b ≡ turns own → ◌≡◌ {A = Touched} (record { rows = record { at = set s.at k x; count = s.count }; its = true; turns = b }) (turned_by (its_row n i) f turns l)
   unfolding turned_by
-  none-turned f turns e =
-      rw (change-none (its_row n i) f l (omega (arith, is, count-is s t, ltb-false k s.count e)), sym its-is ∙ e, e, ← t.form) refl
+  one-turned f turns x g q = rw (changed-is f x g, its-there, q) refl
 
-  pub none-marked : (b : Bool) → (k <? s.count) ≡ false → ◌≡◌ {A = Touched} (record { rows = s; its = k <? s.count; turns = false }) (marked_by n i b l)
-  unfolding marked_by
-  none-marked b = none-turned (with_mark b) (turns_enabled b)
-
-  pub none-reworded : (fits help : Bool) (text : List ℕ) → ((k <? s.count) && fits) ≡ false → ◌≡◌ {A = Touched} (record { rows = s; its = k <? s.count; turns = false }) (reworded_by n i fits help text l)
+  -- the text does not fit
+  pub unfit-reworded : (help : Bool) (text : List ℕ) → ◌≡◌ {A = Touched} (record { rows = s; its = true; turns = false }) (reworded_by n i false help text l)
   unfolding reworded_by kept_by
-  none-reworded true help text e = none-turned (with_words help (take 15 text)) (turns_text help text) (sym (and-true (k <? s.count)) ∙ e)
-  none-reworded false help text e = rw (its-is, ← t.form) refl
+  unfit-reworded help text = rw (its-there, ← t.form) refl
 
-  -- it found the row
-  module _ (e : (k <? s.count) ≡ true) where
-    abbrev h : k < s.count
-    h = ltb-true k s.count e
+  module _ (d : held.Row) where
+    abbrev old : held.Row
+    old = get_or s.at k d
 
-    own_at : (d : held.Row) → get_or s.at k d ≡ stored_row own
-    unfolding stored_row
-    own_at d = held_at s (is_row n i) k t is h d
+    pub old-tidy : TidyRow old
+    old-tidy = rw (own_at d) (tidy-row own)
 
-    changed-is : (f : Row → Row) (x : held.Row) → x ≡ stored_row (f own) → ◌≡◌ {A = Rows} (record { at = set s.at k x; count = s.count }) (stored_rows (change (its_row n i) f l))
-    unfolding stored_row
-    changed-is f x e =
-        let g : held.Row → held.Row = λ y. stored_row (f (view_row y)) in
-        let q : x ≡ g (first (is_row n i) blank (map stored_row l)) = e ∙ ap (λ (r : Row). stored_row (f r)) (sym (row_back own)) ∙ ap g (held_first s (is_row n i) k t is h) in
-        let c : s.count ≡ length (change (its_row n i) f l) = count-is s t ∙ sym (length-change (its_row n i) f l) in
-        stands (change (its_row n i) f l)
-        (changed-at 12 blank (is_row n i) (map stored_row l) s.at (at-is s t) k x g (held-index s (is_row n i) k t is h) (within s (is_row n i) k t is h) q ∙ ap (padded 12 blank) (sym (change-held n i f l)))
-        c
+    old-own : view_row old ≡ own
+    old-own = ap view_row (own_at d) ∙ row_back own
 
-    one-turned : (f : Row → Row) (turns : Row → Bool) (x : held.Row) {b : Bool} → x ≡ stored_row (f own) → b ≡ turns own → ◌≡◌ {A = Touched} (record { rows = record { at = set s.at k x; count = s.count }; its = k <? s.count; turns = b }) (turned_by (its_row n i) f turns l)
-    unfolding turned_by
-    one-turned f turns x g q = rw (changed-is f x g, sym its-is ∙ e, e, q) refl
+    pub one-reworded : (help : Bool) (text : List ℕ) (x : held.Row) {b : Bool} → x ≡ stored_row (with_words help (take 15 text) (view_row old)) → b ≡ turns_text help text (view_row old) → ◌≡◌ {A = Touched} (record { rows = record { at = set s.at k x; count = s.count }; its = true; turns = b }) (reworded_by n i true help text l)
+    unfolding reworded_by
+    one-reworded help text x g q =
+        one-turned (with_words help (take 15 text)) (turns_text help text) x (g ∙ ap (λ (r : Row). stored_row (with_words help (take 15 text) r)) old-own)
+        (q ∙ ap (turns_text help text) old-own)
 
-    module _ (d : held.Row) where
-      abbrev old : held.Row
-      old = get_or s.at k d
-
-      pub old-tidy : TidyRow old
-      old-tidy = rw (own_at d) (tidy-row own)
-
-      old-own : view_row old ≡ own
-      old-own = ap view_row (own_at d) ∙ row_back own
-
-      pub one-reworded : (fits help : Bool) (text : List ℕ) (x : held.Row) {b : Bool} → ((k <? s.count) && fits) ≡ true → x ≡ stored_row (with_words help (take 15 text) (view_row old)) → b ≡ turns_text help text (view_row old) → ◌≡◌ {A = Touched} (record { rows = record { at = set s.at k x; count = s.count }; its = k <? s.count; turns = b }) (reworded_by n i fits help text l)
-      unfolding reworded_by
-      one-reworded fits help text x z g q =
-          rw (and_right (k <? s.count) fits z)
-          (one-turned (with_words help (take 15 text)) (turns_text help text) x (g ∙ ap (λ (r : Row). stored_row (with_words help (take 15 text) r)) old-own)
-          (q ∙ ap (turns_text help text) old-own))
-
-      pub one-marked : (b : Bool) → ◌≡◌ {A = Touched} (record { rows = record { at = set s.at k (record { identifier = old.identifier; owner = old.owner; help = old.help; enabled = b; text = old.text; len = old.len }); count = s.count }; its = k <? s.count; turns = not (beq old.enabled b) }) (marked_by n i b l)
-      unfolding marked_by
-      one-marked b = one-turned (with_mark b) (turns_enabled b) _ (new-mark own (own_at d)) (enabled-turns _ own (own_at d) b)
+    pub one-marked : (b : Bool) → ◌≡◌ {A = Touched} (record { rows = record { at = set s.at k (record { identifier = old.identifier; owner = old.owner; help = old.help; enabled = b; text = old.text; len = old.len }); count = s.count }; its = true; turns = not (beq old.enabled b) }) (marked_by n i b l)
+    unfolding marked_by
+    one-marked b = one-turned (with_mark b) (turns_enabled b) _ (new-mark own (own_at d)) (enabled-turns _ own (own_at d) b)

@@ -9,7 +9,7 @@ use mathlib.Core.List.{List, [], ◌∷◌}
 use lib.Bits.{bit_or}
 use lib.Count.{count_trailing_zeros}
 use lib.ListN.{length, take, get_or}
-use lib.Seq.{take-suc}
+use lib.Seq.{take-suc, take_all}
 use borrow.Author.Tests.{eq-eqb, ne_eqb, eqb-true, eqb-false}
 use Rattle.std.specs.Prelude.{if◌then◌else◌, ◌==◌}
 use Rattle.lists.specs.Lists.{some?}
@@ -94,10 +94,11 @@ free-further (suc n) m i l e = let q : suc n + m ≡ suc (n + m) = omega arith i
     go false e f = refl
 
 -- THE FREE IDENTIFIER
-pub free-is : (s : Rows) → TidyRows s → {used : ℕ} → used ≡ used_to s.count s.at → count_trailing_zeros 32 (2 ^ 32 - 1 - used) + 128 ≡ smallest_free (view_rows s)
+pub free-is : (s : Rows) → TidyRows s → {l : List held.Row} {k used : ℕ} → l ≡ take s.count s.at → length l ≤ k → used ≡ used_to k l → count_trailing_zeros 32 (2 ^ 32 - 1 - used) + 128 ≡ smallest_free (view_rows s)
 unfolding view_row in_use
-free-is s t e =
-    ap (λ (k : ℕ). count_trailing_zeros 32 (2 ^ 32 - 1 - k) + 128) (e ∙ bits-alike 32 _ (λ j. in_use (128 + j) (view_rows s)) (λ j h. some-viewed s (has_identifier (128 + j))))
+free-is s t {l} {k} p h e =
+    ap (λ (k : ℕ). count_trailing_zeros 32 (2 ^ 32 - 1 - k) + 128)
+    (e ∙ ap (λ (r : List held.Row). bits_of 32 (λ j. some? (named (128 + j)) r)) (take_all k l h ∙ p) ∙ bits-alike 32 _ (λ j. in_use (128 + j) (view_rows s)) (λ j h. some-viewed s (has_identifier (128 + j))))
     ∙ free-bits 32 128 (view_rows s)
     ∙ sym (free-further 32 95 128 (view_rows s) (from-unused 32 128 (view_rows s) (omega (arith, count-is s t, t.few))))
     ∙ sym (smallest-is (view_rows s))

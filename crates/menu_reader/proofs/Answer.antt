@@ -9,7 +9,7 @@ use lib.ListN.{length, take, drop, length-append, length-drop, take-append-drop}
 use lib.Seq.{drop-drop, drop_at, drop-length, length-take-le}
 use borrow.Author.Tests.{le-leb, leb-true, not-true}
 use Rattle.lists.specs.Tests.{◌≤?◌}
-use Rattle.std.specs.Prelude.{◌==◌}
+use Rattle.std.specs.Prelude.{◌==◌, Option, Some, None}
 use Rattle.lists.specs.Lists.{every?, repeats?, empty?, gather, padded}
 use Rattle.lists.proofs.Decided.{both}
 use Rattle.rules.specs.declared.Menu as held-menu
@@ -54,7 +54,7 @@ may-stand m h = rw (le-leb (length m.title) 20 h.title, le-leb (length m.items) 
 refuse : (s : List ℕ) → ((m : Menu) → Stands m → menu_bytes m ≡ s → ⊥) → refused ≡ menu_reader document s
 refuse s f = sym ((reader-reads document s).refused (λ m w. f m (stands_of m w.stands) w.written))
 
-pub no-title : {s : List ℕ} {t : ℕ} → TitleAt s t → t ≡ 0 → refused ≡ menu_reader document s
+pub no-title : {s : List ℕ} {t : Option ℕ} → TitleAt s t → t ≡ None → refused ≡ menu_reader document s
 no-title {s} o z = refuse s (λ m h e. o.none z m e)
 
 -- items take bytes
@@ -63,7 +63,7 @@ unfolding items_bytes empty? gather item_bytes
 some-items [] = omega arith
 some-items (x ∷ l) = omega arith
 
-module _ {s : List ℕ} {t : ℕ} (o : TitleAt s t) (z : t ≡ 0 → ⊥) where
+module _ {s : List ℕ} {t : ℕ} (o : TitleAt s (Some t)) where
   abbrev pub mark : Bool
   mark = not (byte s (t - 7) == 0)
 
@@ -71,7 +71,7 @@ module _ {s : List ℕ} {t : ℕ} (o : TitleAt s t) (z : t ≡ 0 → ⊥) where
   size = byte s (t - 1)
 
   said : (m : Menu) → menu_bytes m ≡ s → (mark ≡ m.help) × (size ≡ length m.title) × (drop t s ≡ m.title ++ items_bytes m.items)
-  said m e = let f = (o.some z).0 in (help-is s m e mark size (drop t s) f, title-size s m e mark size (drop t s) f, behind-front s m e mark size (drop t s) f)
+  said m e = let f = (o.some t refl).0 in (help-is s m e mark size (drop t s) f, title-size s m e mark size (drop t s) f, behind-front s m e mark size (drop t s) f)
 
   pub long-title : 20 < size → refused ≡ menu_reader document s
   long-title h = refuse s (λ m p e. omega (arith, (said m e).1, p.title))
@@ -107,7 +107,7 @@ module _ {s : List ℕ} {t : ℕ} (o : TitleAt s t) (z : t ≡ 0 → ⊥) where
       menu-written =
           record {
             stands = may-stand menu (record { title = omega (arith, title-long); items = w.stay; marked = found.1 });
-            written = put-together menu (o.some z).0 (sym title-long) (sym (take-append-drop size (drop t s)) ∙ ap (λ (l : List ℕ). take size (drop t s) ++ l) (drop-drop size t s ∙ sym found.0));
+            written = put-together menu (o.some t refl).0 (sym title-long) (sym (take-append-drop size (drop t s)) ∙ ap (λ (l : List ℕ). take size (drop t s) ++ l) (drop-drop size t s ∙ sym found.0));
           }
 
       pub is_read

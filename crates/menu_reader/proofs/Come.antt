@@ -8,7 +8,7 @@ use mathlib.Core.List.{List, [], ◌∷◌, ◌++◌, map, append_assoc, append-
 use lib.ListN.{length, take, drop, get_or, set, replicate, length-append, length-drop, length-set, length-replicate, get_or-replicate}
 use lib.Seq.{append_snoc, length-take-le, get_or-set_same, get_or-set_other, get_or-drop}
 use borrow.Author.Tests.{eqb-true, eqb-false}
-use Rattle.std.specs.Prelude.{◌==◌}
+use Rattle.std.specs.Prelude.{◌==◌, Option, Some, None}
 use Rattle.lists.specs.Lists.{every?, in?, some?, repeats?, gather, padded}
 use Rattle.lists.proofs.Padded.{push}
 use Rattle.lists.proofs.Mapped.{map-append, map-length}
@@ -70,14 +70,14 @@ module _ {s : List ℕ} {from : ℕ} {at : List held.Item} {seen : List Bool} {n
   pub come-full : 12 ≤ k → ItemsRead s from (record { at = at; count = k; next = next })
   come-full h = come-stop (λ x l t e. absurd (omega (arith, t.few, length-append c.done (x ∷ l), c.many)))
 
-  module _ {len : ℕ} (o : TextAt s next len) where
-    pub come-end : len ≡ 0 → ItemsRead s from (record { at = at; count = k; next = next })
-    unfolding every?
-    come-end z =
-        come-stop (λ x l t e.
-        let p : (every? (proper_item document) c.done && (proper_item document x && every? (proper_item document) l)) ≡ true = sym (every_two (proper_item document) c.done (x ∷ l)) ∙ t.each in
-        o.none z x (gather item_bytes l) (and_left (proper_item document x) _ (and_right (every? (proper_item document) c.done) _ p)) e)
+  pub come-end : {r : Option ℕ} → TextAt s next r → r ≡ None → ItemsRead s from (record { at = at; count = k; next = next })
+  unfolding every?
+  come-end o z =
+      come-stop (λ x l t e.
+      let p : (every? (proper_item document) c.done && (proper_item document x && every? (proper_item document) l)) ≡ true = sym (every_two (proper_item document) c.done (x ∷ l)) ∙ t.each in
+      o.none z x (gather item_bytes l) (and_left (proper_item document x) _ (and_right (every? (proper_item document) c.done) _ p)) e)
 
+  module _ {len : ℕ} (o : TextAt s next (Some len)) where
     -- the identifier there
     identifier-is : (x : Item) (l : List ℕ) → item_bytes x ++ l ≡ drop next s → byte s (next + 2) ≡ x.identifier
     unfolding item_bytes
@@ -91,7 +91,7 @@ module _ {s : List ℕ} {from : ℕ} {at : List held.Item} {seen : List Bool} {n
         clashing (ap (λ (j : List ℕ). repeats? j []) (map-append (λ (y : Item). y.identifier) c.done (x ∷ l)) ∙ twice (identifiers c.done) x.identifier (identifiers l) there) t.apart)
 
     -- the item is read
-    module _ (some : len ≡ 0 → ⊥) (room : k < 12) (small : byte s (next + 2) < 256) (missed : get_or seen (byte s (next + 2)) false ≡ false) where
+    module _ (room : k < 12) (small : byte s (next + 2) < 256) (missed : get_or seen (byte s (next + 2)) false ≡ false) where
       abbrev new : Item
       new = item_at s next len
 
@@ -103,7 +103,7 @@ module _ {s : List ℕ} {from : ℕ} {at : List held.Item} {seen : List Bool} {n
       more-stay =
           record {
             few = omega (arith, length-append c.done (new ∷ []), c.many);
-            each = every_two (proper_item document) c.done (new ∷ []) ∙ rw (c.stay.each, (o.some some).1) refl;
+            each = every_two (proper_item document) c.done (new ∷ []) ∙ rw (c.stay.each, (o.some len refl).1) refl;
             apart = ap (λ (l : List ℕ). repeats? l []) (map-append (λ (x : Item). x.identifier) c.done (new ∷ [])) ∙ fresh-more (identifiers c.done) (byte s (next + 2)) c.stay.apart missing;
           }
 
@@ -126,9 +126,9 @@ module _ {s : List ℕ} {from : ℕ} {at : List held.Item} {seen : List Bool} {n
       more-rest l t e = let r = c.rest l t e in go r.others r.all r.bytes
         where
           go : (k : List Item) → l ≡ c.done ++ k → gather item_bytes k ≡ drop next s → Rest s (next + 3 + len) (c.done ++ (new ∷ [])) l
-          go [] q f = absurd (omega (arith, ap length f, length-drop next s, (o.some some).2))
+          go [] q f = absurd (omega (arith, ap length f, length-drop next s, (o.some len refl).2))
           go (x ∷ k) q f =
-              let w = item-same x new (gather item_bytes k) (drop (next + 3 + len) s) (f ∙ sym (o.some some).0) in
+              let w = item-same x new (gather item_bytes k) (drop (next + 3 + len) s) (f ∙ sym (o.some len refl).0) in
               record { others = k; all = q ∙ ap (λ (y : Item). c.done ++ (y ∷ k)) w.0 ∙ sym (append_snoc c.done new k); bytes = w.1 }
 
       gather-more : (l : List Item) (x : Item) → gather item_bytes (l ++ (x ∷ [])) ≡ gather item_bytes l ++ item_bytes x
@@ -139,7 +139,7 @@ module _ {s : List ℕ} {from : ℕ} {at : List held.Item} {seen : List Bool} {n
       item-is : {text : List ℕ} → text ≡ padded 15 0 (take 15 (take (next + 3 + len - (next + 3)) (drop (next + 3) s))) → ◌≡◌ {A = held.Item} (record { identifier = byte s (next + 2); text = text; len = len }) (stored_item new)
       unfolding stored_item item_at
       item-is e =
-          let h = o.some some in
+          let h = o.some len refl in
           let n : length (take len (drop (next + 3) s)) ≡ len = length-take-le len (drop (next + 3) s) (omega (arith, h.2, length-drop (next + 3) s)) in
           rw (e, part_held (next + 3) len 15 (drop (next + 3) s) h.3, n) refl
 
@@ -148,10 +148,10 @@ module _ {s : List ℕ} {from : ℕ} {at : List held.Item} {seen : List Bool} {n
           record {
             done = c.done ++ (new ∷ []);
             stay = more-stay;
-            bytes = ap (λ (l : List ℕ). l ++ drop (next + 3 + len) s) (gather-more c.done new) ∙ append_assoc (gather item_bytes c.done) (item_bytes new) (drop (next + 3 + len) s) ∙ ap (λ (l : List ℕ). gather item_bytes c.done ++ l) (o.some some).0 ∙ c.bytes;
+            bytes = ap (λ (l : List ℕ). l ++ drop (next + 3 + len) s) (gather-more c.done new) ∙ append_assoc (gather item_bytes c.done) (item_bytes new) (drop (next + 3 + len) s) ∙ ap (λ (l : List ℕ). gather item_bytes c.done ++ l) (o.some len refl).0 ∙ c.bytes;
             form = push 12 (stored_item no_item) (map stored_item c.done) at k _ c.form (c.many ∙ sym (map-length stored_item c.done)) room ∙ ap (padded 12 (stored_item no_item)) (ap (λ (x : held.Item). map stored_item c.done ++ (x ∷ [])) (item-is e) ∙ sym (map-append stored_item c.done (new ∷ [])));
             many = omega (arith, length-append c.done (new ∷ []), c.many);
-            within = (o.some some).2;
+            within = (o.some len refl).2;
             long = length-set seen (byte s (next + 2)) true ∙ c.long;
             marks = more-marks;
             rest = more-rest;

@@ -2,12 +2,14 @@
 -- Assumes nothing.
 use Prim.Native.Nat.{ℕ, suc, ◌+◌, ◌-◌, ◌≤◌, ◌<◌}
 use native.Mathlib.Omega.{arith}
-use mathlib.Core.Path.{◌≡◌, refl, sym, ap, ◌∙◌}
+use mathlib.Core.Path.{◌≡◌, refl, sym, ap, subst, ◌∙◌}
 use mathlib.Core.Bool.{Bool, true, false, ◌&&◌}
 use mathlib.Core.List.{List, [], ◌∷◌, ◌++◌}
 use lib.ListN.{length, take, drop, length-append, length-drop, take-append-drop}
 use lib.Seq.{get_or-drop, drop-drop, drop-length, length-take-le, take_at, drop_at}
 use borrow.Author.Tests.{le-leb, leb-true}
+use Rattle.std.specs.Prelude.{Option, Some, None}
+use Rattle.std.proofs.lemmas.Option.{none-some, same_Some}
 use Rattle.lists.specs.Tests.{◌≤?◌}
 use Rattle.lists.specs.Lists.{empty?, gather}
 use Rattle.lists.proofs.Truth.{and-false, and-true}
@@ -88,11 +90,11 @@ module _ (s : List ℕ) (at : ℕ) where
   -- no item stands there: none with a text of n bytes and the identifier d
   pub text-none
       : ((n d : ℕ) → 1 ≤ n → n ≤ 15 → 1 ≤ d → 3 + n ≤ length s - at → byte s at ≡ 0x8F → byte s (at + 1) ≡ n + 1 → byte s (at + 2) ≡ d → ⊥)
-      → TextAt s at 0
+      → TextAt s at None
   unfolding item_bytes
-  text-none f = record { none = none; some = λ z. absurd (z refl) }
+  text-none f = record { none = none; some = λ n z. absurd (none-some n z) }
     where
-      none : ◌≡◌ {A = ℕ} 0 0 → (i : Item) (l : List ℕ) → proper_item document i ≡ true → item_bytes i ++ l ≡ drop at s → ⊥
+      none : ◌≡◌ {A = Option ℕ} None None → (i : Item) (l : List ℕ) → proper_item document i ≡ true → item_bytes i ++ l ≡ drop at s → ⊥
       none z i l p e =
           let h = proper-parts i p in
           let b : (k : ℕ) → byte s (at + k) ≡ byte (item_bytes i ++ l) k = λ k. sym (get_or-drop at s k 0) ∙ ap (λ (t : List ℕ). byte t k) (sym e) in
@@ -100,12 +102,13 @@ module _ (s : List ℕ) (at : ℕ) where
           f (length i.text) i.identifier h.1 h.2 h.0 (omega (arith, ap length e, length-drop at s, length-append i.text l)) (sym first ∙ ap (λ (t : List ℕ). byte t 0) (sym e)) n (b 2)
 
   -- one stands there, with a length byte n
-  pub text-is : {n : ℕ} → byte s at ≡ 0x8F → n ≡ byte s (at + 1) → (byte s (at + 2) ≡ 0 → ⊥) → byte s (at + 2) ≤ 255 → n ≤ 16 → n + 2 ≤ length s - at → TextAt s at (n - 1)
+  pub text-is : {n : ℕ} → byte s at ≡ 0x8F → n ≡ byte s (at + 1) → (byte s (at + 2) ≡ 0 → ⊥) → byte s (at + 2) ≤ 255 → 2 ≤ n → n ≤ 16 → n + 2 ≤ length s - at → TextAt s at (Some (n - 1))
   unfolding item_bytes item_at
-  text-is {n} e f g h i j =
+  text-is {n} e f g h two i j =
       record {
-        none = λ z. (text-none (λ m d a b c k o p q. absurd (omega arith))).none refl;
-        some = λ z. (whole z, proper-is (item_at s at (n - 1)) size positive h (omega arith) (omega arith), omega arith, omega arith);
+        none = λ z. absurd (none-some (n - 1) (sym z));
+        some = λ m z. subst (λ r. (item_bytes (item_at s at r) ++ drop (at + 3 + r) s ≡ drop at s) × (proper_item document (item_at s at r) ≡ true) × (at + 3 + r ≤ length s) × (r ≤ 15)) (same_Some (n - 1) m z)
+            (whole, proper-is (item_at s at (n - 1)) size positive h (omega arith) (omega arith), omega arith, omega arith);
       }
     where
       size : length (take (n - 1) (drop (at + 3) s)) ≡ n - 1
@@ -114,8 +117,8 @@ module _ (s : List ℕ) (at : ℕ) where
       positive : 1 ≤ byte s (at + 2)
       positive = omega (arith, g)
 
-      whole : (n - 1 ≡ 0 → ⊥) → item_bytes (item_at s at (n - 1)) ++ drop (at + 3 + (n - 1)) s ≡ drop at s
-      whole z =
+      whole : item_bytes (item_at s at (n - 1)) ++ drop (at + 3 + (n - 1)) s ≡ drop at s
+      whole =
           let a : suc (n - 1) ≡ byte s (at + 1) = omega arith in
           let t : take (n - 1) (drop (at + 3) s) ++ drop (at + 3 + (n - 1)) s ≡ drop (at + 3) s =
           ap (λ (l : List ℕ). take (n - 1) (drop (at + 3) s) ++ l) (sym (drop-drop (n - 1) (at + 3) s)) ∙ take-append-drop (n - 1) (drop (at + 3) s)

@@ -1,6 +1,6 @@
 -- What the parts of the menu reader hand on: where a part of a menu command starts, or that no menu command has one there.
 use Rattle.std.specs.Prelude.{ℕ, ◌+◌, ◌-◌, ◌≤◌, ◌≡◌, Bool, true, false, not, ◌&&◌, List, [], ◌∷◌, ◌++◌, map, length, take, drop}
-use Rattle.std.specs.Prelude.{if◌then◌else◌, ◌==◌}
+use Rattle.std.specs.Prelude.{if◌then◌else◌, ◌==◌, Option, Some, None}
 use Rattle.lists.specs.Lists.{every?, repeats?, empty?, gather, padded}
 use Rattle.rules.specs.Holds.{document}
 use Rattle.rules.specs.Bytes.{byte}
@@ -33,15 +33,15 @@ pub record Stay (l : List Item) : Type 0 where
   pub each : every? (proper_item document) l ≡ true
   pub apart : repeats? (identifiers l) [] ≡ false
 
--- the value of a command starts at r; at 0 there is no command with a value of 11 bytes or more
-pub record ValueAt (s : List ℕ) (r : ℕ) : Type 0 where
-  pub none : r ≡ 0 → (v : List ℕ) → 11 ≤ length v → command_bytes v ≡ s → ⊥
-  pub some : (r ≡ 0 → ⊥) → (command_bytes (drop r s) ≡ s) × (r + 11 ≤ length s)
+-- the value of a command starts at v; at None there is no command with a value of 11 bytes or more
+pub record ValueAt (s : List ℕ) (r : Option ℕ) : Type 0 where
+  pub none : r ≡ None → (v : List ℕ) → 11 ≤ length v → command_bytes v ≡ s → ⊥
+  pub some : (v : ℕ) → r ≡ Some v → (command_bytes (drop v s) ≡ s) × (v + 11 ≤ length s)
 
--- the title starts at r, with the help mark seven bytes before it and its length right before it; at 0 there is no menu command
-pub record TitleAt (s : List ℕ) (r : ℕ) : Type 0 where
-  pub none : r ≡ 0 → (m : Menu) → menu_bytes m ≡ s → ⊥
-  pub some : (r ≡ 0 → ⊥) → (command_bytes (front (not (byte s (r - 7) == 0)) (byte s (r - 1)) ++ drop r s) ≡ s) × (11 ≤ r) × (r ≤ length s)
+-- the title starts at t, with the help mark seven bytes before it and its length right before it; at None there is no menu command
+pub record TitleAt (s : List ℕ) (r : Option ℕ) : Type 0 where
+  pub none : r ≡ None → (m : Menu) → menu_bytes m ≡ s → ⊥
+  pub some : (t : ℕ) → r ≡ Some t → (command_bytes (front (not (byte s (t - 7) == 0)) (byte s (t - 1)) ++ drop t s) ≡ s) × (11 ≤ t) × (t ≤ length s)
 
 -- the items of a menu with this help mark start at r: they are what stands behind the title
 pub record ItemsAt (s : List ℕ) (end : ℕ) (help : Bool) (r : ℕ) : Type 0 where
@@ -49,10 +49,10 @@ pub record ItemsAt (s : List ℕ) (end : ℕ) (help : Bool) (r : ℕ) : Type 0 w
   pub behind : (l : List Item) → gather item_bytes l ≡ drop r s → (items_bytes l ≡ drop end s) × ((help && empty? l) ≡ false)
   pub only : (l : List Item) → (help && empty? l) ≡ false → items_bytes l ≡ drop end s → gather item_bytes l ≡ drop r s
 
--- an item with a text of length r stands at the position; 0 where none stands there
-pub record TextAt (s : List ℕ) (at r : ℕ) : Type 0 where
-  pub none : r ≡ 0 → (i : Item) (l : List ℕ) → proper_item document i ≡ true → item_bytes i ++ l ≡ drop at s → ⊥
-  pub some : (r ≡ 0 → ⊥) → (item_bytes (item_at s at r) ++ drop (at + 3 + r) s ≡ drop at s) × (proper_item document (item_at s at r) ≡ true) × (at + 3 + r ≤ length s) × (r ≤ 15)
+-- an item with a text of length n stands at the position; at None none stands there
+pub record TextAt (s : List ℕ) (at : ℕ) (r : Option ℕ) : Type 0 where
+  pub none : r ≡ None → (i : Item) (l : List ℕ) → proper_item document i ≡ true → item_bytes i ++ l ≡ drop at s → ⊥
+  pub some : (n : ℕ) → r ≡ Some n → (item_bytes (item_at s at n) ++ drop (at + 3 + n) s ≡ drop at s) × (proper_item document (item_at s at n) ≡ true) × (at + 3 + n ≤ length s) × (n ≤ 15)
 
 -- the items from a position on that may stand in a menu together: they end where the bytes end if any such items do
 pub record ItemsRead (s : List ℕ) (from : ℕ) (r : Parsed) : Type 0 where

@@ -7,9 +7,10 @@ ghost use Rattle.rules.specs.Readers.{ReadsMenu};
 ghost use Rattle.rules.specs.Held.{stored_item, stored_menu};
 ghost use Rattle.menu_reader.specs.Reads.{no_item, refused, ValueAt, TitleAt, ItemsAt, TextAt, ItemsRead};
 
-use rules::{Desk, Item, Menu, Row, Rows, refused};
+use rules::{Desk, Item, Menu, Refused, Row, Rows};
 
-// The items that were read, how many they are, and the index behind them.
+// The items that were read, how many they are, and the index behind them. Array and count go as they are into `Menu`, a struct of
+// the C interface.
 #[derive(Clone, Copy)]
 pub struct Parsed {
     pub at: [Item; Rows::MOST],
@@ -17,60 +18,52 @@ pub struct Parsed {
     pub next: usize,
 }
 
-// Where the value of a command starts, behind D0 and its length; 0 where the card would have written others.
-fn value_at(bytes: &[u8]) -> usize
+// Where the value of a command starts, behind D0 and its length, if the card would have written these.
+fn value_at(bytes: &[u8]) -> Option<usize>
     ensures { ValueAt bytes.now result }
 {
     let n = bytes.len();
     if n < 13 {
-        return 0;
+        return None;
     }
     if bytes[0] != 0xD0 {
-        return 0;
+        return None;
     }
     if n < 130 {
-        if bytes[1] as usize + 2 == n {
-            return 2;
+        if usize::from(bytes[1]) + 2 == n {
+            return Some(2);
         }
-        return 0;
+        return None;
     }
     if bytes[1] != 0x81 {
-        return 0;
+        return None;
     }
     if n == 130 {
-        return 0;
+        return None;
     }
-    if bytes[2] as usize + 3 == n {
-        return 3;
+    if usize::from(bytes[2]) + 3 == n {
+        return Some(3);
     }
-    0
+    None
 }
 
-// The qualifier: 80 for the help mark.
-fn qualifier(help: bool) -> u8
-    ensures { result ≡ (if help then 0x80 else 0x00) }
-{
-    if help { 0x80 } else { 0x00 }
-}
-
-// Where the title starts, behind its length; 0 where the card would have written other bytes before it.
-fn title_at(bytes: &[u8]) -> usize
+// Where the title starts, behind its length, if the card would have written the bytes before it.
+fn title_at(bytes: &[u8]) -> Option<usize>
     ensures { TitleAt bytes.now result }
 {
-    let v = value_at(bytes);
-    if v == 0 {
-        return 0;
-    }
-    let q = qualifier(bytes[v + 4] != 0);
+    let v = value_at(bytes)?;
+    let q = writing::qualifier(bytes[v + 4] != 0);
     let len = bytes[v + 10];
     let at = v + 11;
+
+    // By `==` of slices (proved) the reader took 255 ns for 221, and 1,544 B of stack for 1,464.
     if check::same(
         &bytes[v..at],
         &[0x81, 0x03, 0x01, 0x25, q, 0x82, 0x02, 0x81, 0x82, 0x85, len],
     ) {
-        return at;
+        return Some(at);
     }
-    0
+    None
 }
 
 // Where the items start, behind the title that ends here: at the end of the bytes where 8F 00 stands for none.
@@ -87,32 +80,32 @@ fn items_at(bytes: &[u8], end: usize, help: bool) -> usize
     end
 }
 
-// How long the text of the item at a position is; 0 where none stands there that the card could have written.
-fn text_len(bytes: &[u8], at: usize) -> usize
+// How long the text of the item at a position is, if one stands there that the card could have written.
+fn text_len(bytes: &[u8], at: usize) -> Option<usize>
     requires { at ≤ length bytes.now }
     ensures { TextAt bytes.now at result }
 {
     let left = bytes.len() - at;
     if left < 4 {
-        return 0;
+        return None;
     }
     if bytes[at] != 0x8F {
-        return 0;
+        return None;
     }
     if bytes[at + 2] == 0 {
-        return 0;
+        return None;
     }
-    let n = bytes[at + 1] as usize;
-    if n == 0 {
-        return 0;
+    let n = usize::from(bytes[at + 1]);
+    if n < 2 {
+        return None;
     }
     if Row::TEXT + 1 < n {
-        return 0;
+        return None;
     }
     if left < n + 2 {
-        return 0;
+        return None;
     }
-    n - 1
+    Some(n - 1)
 }
 
 // The item that stands where there is none.
@@ -135,20 +128,18 @@ fn read_items(bytes: &[u8], from: usize) -> Parsed
     let mut at = [none; Rows::MOST];
     let mut seen = [false; 256];
     let mut next = from;
-    let mut count: usize = 0;
-    while count < Rows::MOST {
-        let len = text_len(bytes, next);
-        if len == 0 {
+    for count in 0..Rows::MOST {
+        let Some(len) = text_len(bytes, next) else {
             return Parsed { at, count, next };
-        }
+        };
         let identifier = bytes[next + 2];
-        if seen[identifier as usize] {
+        if seen[usize::from(identifier)] {
             return Parsed { at, count, next };
         }
-        seen[identifier as usize] = true;
+        seen[usize::from(identifier)] = true;
         let start = next + 3;
         let end = start + len;
-        let text = writing::held_text(&bytes[start..end]);
+        let text = writing::held(&bytes[start..end]);
         let size = len as u8;
         let item = Item {
             identifier,
@@ -157,9 +148,12 @@ fn read_items(bytes: &[u8], from: usize) -> Parsed
         };
         at[count] = item;
         next = end;
-        count += 1;
     }
-    Parsed { at, count, next }
+    Parsed {
+        at,
+        count: Rows::MOST,
+        next,
+    }
 }
 
 // The answer where the bytes are no menu command.
@@ -169,7 +163,7 @@ fn refusal() -> Menu
     let none = no_item();
     let at = [none; Rows::MOST];
     Menu {
-        refusal: refused::MALFORMED,
+        refusal: Refused::Malformed.number(),
         title: [0; Desk::TITLE],
         title_len: 0,
         help: false,
@@ -182,12 +176,11 @@ fn refusal() -> Menu
 pub fn read_menu(bytes: &[u8]) -> Menu
     ensures { ReadsMenu bytes.now result }
 {
-    let start = title_at(bytes);
-    if start == 0 {
+    let Some(start) = title_at(bytes) else {
         return refusal();
-    }
+    };
     let help = bytes[start - 7] != 0;
-    let len = bytes[start - 1] as usize;
+    let len = usize::from(bytes[start - 1]);
     if Desk::TITLE < len {
         return refusal();
     }
@@ -200,7 +193,7 @@ pub fn read_menu(bytes: &[u8]) -> Menu
     if parsed.next != bytes.len() {
         return refusal();
     }
-    let title = writing::held_title(&bytes[start..end]);
+    let title = writing::held(&bytes[start..end]);
     let title_len = len as u8;
     let at = parsed.at;
     let count = parsed.count as u8;

@@ -12,42 +12,22 @@ ghost use Rattle.menu_shown.specs.Chosen.{chosen_owner, has_enabled_row, is_show
 use rules::{Row, Rows};
 
 // A choice counts for the row: it has the identifier, it is enabled, and where help is asked for it offers help.
-fn is_chosen(row: Row, identifier: u8, help: bool) -> bool
-    ensures { result ≡ (row.identifier == identifier && row.enabled && (row.help || not help)) }
+fn is_chosen(row: &Row, identifier: u8, help: bool) -> bool
+    ensures { result ≡ (row.now.identifier == identifier && row.now.enabled && (row.now.help || not help)) }
 {
-    if row.identifier == identifier {
-        let helps = row.help | !help;
-        return row.enabled & helps;
-    }
-    false
+    row.identifier == identifier && row.enabled && (row.help || !help)
 }
 
-// The applet that a menu choice is for, or a request for help: the owner of the row for which it counts; 0 where there is none.
+// The applet that a menu choice is for, or a request for help: the owner of the row for which it counts; 0 where there is none,
+// as callers make a set of it, and 0 makes the empty one.
 pub fn chosen_owner(rows: Rows, identifier: u8, help: bool) -> u8
     requires { TidyRows rows }
     ensures { result ≡ chosen_owner identifier help (view_rows rows) }
 {
-    let n = rows.count as usize;
-    let mut i = 0;
-    while i < n {
-        let row = rows.at[i];
-        let is = is_chosen(row, identifier, help);
-        if is {
-            return row.owner;
-        }
-        i += 1;
-    }
-    0
-}
-
-// The row is the applet's, and enabled.
-fn is_enabled_of(row: Row, applet: u8) -> bool
-    ensures { result ≡ (row.owner == applet && row.enabled) }
-{
-    if row.owner == applet {
-        return row.enabled;
-    }
-    false
+    menu::listed(&rows)
+        .iter()
+        .find(|row| is_chosen(row, identifier, help))
+        .map_or(0, |row| row.owner)
 }
 
 // An enabled row is the applet's.
@@ -55,25 +35,16 @@ pub fn has_enabled_row(rows: Rows, applet: u8) -> bool
     requires { TidyRows rows }
     ensures { result ≡ has_enabled_row applet (view_rows rows) }
 {
-    let n = rows.count as usize;
-    let mut i = 0;
-    while i < n {
-        let row = rows.at[i];
-        let is = is_enabled_of(row, applet);
-        if is {
-            return true;
-        }
-        i += 1;
-    }
-    false
+    menu::listed(&rows)
+        .iter()
+        .any(|row| row.owner == applet && row.enabled)
 }
 
 // Whether a row is shown: it is enabled, and its owner in the set.
-pub fn is_shown(row: Row, selectable: u8) -> bool
-    ensures { result ≡ is_shown selectable (view_row row) }
+pub fn is_shown(row: &Row, selectable: u8) -> bool
+    ensures { result ≡ is_shown selectable (view_row row.now) }
 {
-    let able = sets::has(selectable, row.owner);
-    row.enabled & able
+    row.enabled && sets::has(selectable, row.owner)
 }
 
 // Some row is shown, where these applets are selectable.
@@ -81,49 +52,23 @@ pub fn has_shown_row(rows: Rows, selectable: u8) -> bool
     requires { TidyRows rows }
     ensures { result ≡ has_shown_row selectable (view_rows rows) }
 {
-    let n = rows.count as usize;
-    let mut i = 0;
-    while i < n {
-        let row = rows.at[i];
-        let is = is_shown(row, selectable);
-        if is {
-            return true;
-        }
-        i += 1;
-    }
-    false
+    menu::listed(&rows)
+        .iter()
+        .any(|row| is_shown(row, selectable))
 }
 
 // The row's text is this one.
-pub fn same_text(row: Row, text: &[u8]) -> bool
-    requires { TidyRow row }
-    ensures { result ≡ same? (view_row row).text text.now }
+pub fn same_text(row: &Row, text: &[u8]) -> bool
+    requires { TidyRow row.now }
+    ensures { result ≡ same? (view_row row.now).text text.now }
 {
-    let n = row.len as usize;
-    if n != text.len() {
-        return false;
-    }
-    let mut i = 0;
-    while i < n {
-        if row.text[i] != text[i] {
-            return false;
-        }
-        i += 1;
-    }
-    true
+    &row.text[..usize::from(row.len)] == text
 }
 
 // The row is enabled, and this help mark and text are not its own: to change it so turns what is shown of it.
-pub fn turns_text(row: Row, help: bool, text: &[u8]) -> bool
-    requires { TidyRow row }
-    ensures { result ≡ turns_text help text.now (view_row row) }
+pub fn turns_text(row: &Row, help: bool, text: &[u8]) -> bool
+    requires { TidyRow row.now }
+    ensures { result ≡ turns_text help text.now (view_row row.now) }
 {
-    if !row.enabled {
-        return false;
-    }
-    let same = same_text(row, text);
-    if same {
-        return row.help != help;
-    }
-    true
+    row.enabled && (row.help != help || !same_text(row, text))
 }

@@ -1,35 +1,29 @@
 -- A duration and the seconds that it requests; and of two intervals the shorter.
 -- Assumes nothing.
-use Prim.Native.Nat.{ℕ, ◌≤◌, ◌<◌}
+use Prim.Native.Nat.{ℕ, min}
 use native.Mathlib.Omega.{arith}
-use mathlib.Core.Path.{◌≡◌, refl}
+use mathlib.Core.Path.{◌≡◌, refl, ◌∙◌}
 use mathlib.Core.Bool.{Bool, true, false, not}
 use mathlib.Core.List.{[], ◌∷◌}
-use lib.Dec.{T}
 use lib.IntN.{ℤ, pos, negsuc, nat_abs}
-use lib.Signed.{lt_z, non_neg}
 use mir.Syntax.{w16}
-use mir.Val.{Fits, SFits}
-use borrow.Author.Tests.{eqb-true, eq-eqb, ne_eqb, ltb-true}
+use mir.Val.{SFits}
+use Rattle.std.proofs.Common.{Result, Ok, Err}
+use Rattle.std.specs.Result.{OkIff, result_unwrap_or}
+use Rattle.std.specs.Int.{FitsUnsignedBits}
+use borrow.Author.Tests.{eqb-true, eq-eqb, ne_eqb}
 use Rattle.std.specs.Prelude.{if◌then◌else◌, ◌==◌}
 use Rattle.lists.specs.Lists.{keep, smallest}
-use Rattle.lists.proofs.Decided.{clashing}
 use Rattle.lists.proofs.Least.{least_of}
 use Rattle.rules.specs.Applets.{seconds_of}
 
-pub none_below : (d : ℤ) → lt_z d (pos 0) ≡ true → 0 ≡ seconds_of d
+-- a duration that does not fit an unsigned number is the card's choice
+pub seconds-tried : {E : Type 0} (d : ℤ) (r : Result ℕ E) → SFits w16 d → OkIff r (FitsUnsignedBits 16 d) (nat_abs d) → result_unwrap_or r 0 ≡ seconds_of d
 unfolding seconds_of
-none_below (pos n) e = absurd (omega (arith, ltb-true n 0 e))
-none_below (negsuc n) e = refl
-
-pub some-from : (d : ℤ) → lt_z d (pos 0) ≡ false → nat_abs d ≡ seconds_of d
-unfolding seconds_of
-some-from (pos n) e = refl
-some-from (negsuc n) e = clashing refl e
-
-pub some_fits : (d : ℤ) → SFits w16 d → lt_z d (pos 0) ≡ false → T (non_neg d) × Fits w16 (nat_abs d)
-some_fits (pos n) f e = (tt, record { fits = omega (arith, f.sfits) })
-some_fits (negsuc n) f e = clashing refl e
+seconds-tried (pos n) (Ok x) f o = o.1
+seconds-tried (pos n) (Err e) f o = absurd (o (omega (arith, f.sfits)))
+seconds-tried (negsuc n) (Ok x) f o = absurd o.0
+seconds-tried (negsuc n) (Err e) f o = refl
 
 -- THE SHORTER OF TWO, where 0 is none
 module _ (a b : ℕ) where
@@ -47,10 +41,6 @@ module _ (a b : ℕ) where
     one_only z = rw (ne_eqb a 0 some, eq-eqb b 0 z) refl
 
     module _ (other : b ≡ 0 → ⊥) where
-      pub one_less : a < b → a ≡ least_of (a ∷ b ∷ [])
+      pub smaller : {r : ℕ} → r ≡ min a b → r ≡ least_of (a ∷ b ∷ [])
       unfolding keep smallest
-      one_less h = rw (ne_eqb a 0 some, ne_eqb b 0 other) (omega arith)
-
-      pub other-less : b ≤ a → b ≡ least_of (a ∷ b ∷ [])
-      unfolding keep smallest
-      other-less h = rw (ne_eqb a 0 some, ne_eqb b 0 other) (omega arith)
+      smaller e = e ∙ rw (ne_eqb a 0 some, ne_eqb b 0 other) refl

@@ -6,7 +6,9 @@ use mathlib.Core.Path.{◌≡◌, refl, sym, ap, ◌∙◌}
 use mathlib.Core.Bool.{Bool, true, false, not}
 use mathlib.Core.List.{List, [], ◌∷◌, map}
 use lib.ListN.{length, drop, get_or}
-use borrow.Author.Tests.{eq-eqb, ne_eqb}
+use mir.Val.{bool_byte}
+use native.Mathlib.Numerals.{add-one}
+use borrow.Author.Tests.{eq-eqb}
 use Rattle.std.specs.Prelude.{if◌then◌else◌, ◌==◌}
 use Rattle.lists.specs.Lists.{Every, keep, smallest}
 use Rattle.lists.specs.Tables.{table}
@@ -29,16 +31,15 @@ module _ (polls : List ℕ) (set : ℕ) where
   unfolding counted table keep smallest
   interval-none = refl
 
-  module _ (i : ℕ) {l : ℕ} {b : Bool} (some : 0 < i) (few : i ≤ 8) (from : l ≡ least_of (drop i (counted polls set))) (own : b ≡ has? set i) where
+  module _ (i : ℕ) {l : ℕ} {b : Bool} (some : 0 < i) (few : i ≤ 8) (from : l ≡ least_of (drop i (counted polls set))) (own : b ≡ has? set (i - 1 + 1)) where
     stepped : least_of (drop (i - 1) (counted polls set)) ≡ least_of ((if b then get_or polls (i - 1) 0 else 0) ∷ l ∷ [])
     unfolding counted
     stepped =
         let back : i - 1 + 1 ≡ i = omega arith in
-        let next : suc (i - 1) ≡ i = omega arith in
         let step = rw back at (least_step (counted polls set) (i - 1) (omega (arith, table-length 8 (λ i. if has? set (suc i) then get_or polls i 0 else 0)))) in
         step
         ∙ ap (λ (x : ℕ). least_of (x ∷ least_of (drop i (counted polls set)) ∷ [])) (table_at 8 (λ i. if has? set (suc i) then get_or polls i 0 else 0) (i - 1) 0 (omega arith))
-        ∙ ap (λ (k : ℕ). least_of ((if has? set k then get_or polls (i - 1) 0 else 0) ∷ least_of (drop i (counted polls set)) ∷ [])) next
+        ∙ ap (λ (k : ℕ). least_of ((if has? set k then get_or polls (i - 1) 0 else 0) ∷ least_of (drop i (counted polls set)) ∷ [])) (sym (add-one (i - 1)))
         ∙ rw (own, from) refl
 
     pub interval-yes : b ≡ true → {r : ℕ} → r ≡ least_of (get_or polls (i - 1) 0 ∷ l ∷ []) → r ≡ least_of (drop (i - 1) (counted polls set))
@@ -76,15 +77,20 @@ module _ (polls : List ℕ) where
     pub set-small : s < 128
     set-small = built-small asks i s some from eight
 
-    pub set-yes : (get_or polls (i - 1) 0 ≡ 0 → ⊥) → s * 2 + 1 ≡ valued (drop (i - 1) asks)
-    set-yes h = built-yes asks i s some from (omega (arith, eight)) (ask-at ∙ ap not (ne_eqb (get_or polls (i - 1) 0) 0 h))
-
-    pub set-no : get_or polls (i - 1) 0 ≡ 0 → s * 2 ≡ valued (drop (i - 1) asks)
-    set-no h = built-no asks i s some from (omega (arith, eight)) (ask-at ∙ ap not (eq-eqb (get_or polls (i - 1) 0) 0 h))
+    pub set-with : (bit : ℕ) → bit ≡ bool_byte (not (get_or polls (i - 1) 0 == 0)) → s * 2 + bit ≡ valued (drop (i - 1) asks)
+    set-with bit e = ap (λ (k : ℕ). s * 2 + k) e ∙ go (not (get_or polls (i - 1) 0 == 0)) ask-at
+      where
+        go : (b : Bool) → get_or asks (i - 1) false ≡ b → s * 2 + bool_byte b ≡ valued (drop (i - 1) asks)
+        go true h = built-yes asks i s some from (omega (arith, eight)) h
+        go false h = omega (arith, built-no asks i s some from (omega (arith, eight)) h)
 
   pub set_all : (i : ℕ) {s : ℕ} → i ≤ 0 → s ≡ valued (drop i asks) → s ≡ polling_set polls
   unfolding polling_set set_of asks
   set_all i h e = let z : i ≡ 0 = omega arith in rw z at e
+
+pub bit-few : {bit : ℕ} (b : Bool) → bit ≡ bool_byte b → bit ≤ 1
+bit-few true e = omega arith
+bit-few false e = omega arith
 
 -- no change of the interval leaves what is due
 pub after_same : (session interval off : Bool) {before after : ℕ} → before ≡ after → ◌≡◌ {A = Polling} (record { interval = interval; off = off }) (polling_after session interval off before after)

@@ -94,7 +94,7 @@ module _ (polls : List ℕ) (set n : ℕ) where
       go false q = sym (ap (λ (b : Bool). shorter_of (if b then by_number 0 polls n else 0) (interval_of polls rest)) (sym (has-none set n q)) ∙ least_more 0 (table 8 others) ∙ none_out q)
 
 -- a request of one that is not of the set counts nothing
-pub unset-request : (polls : List ℕ) (set n s : ℕ) → has? set n ≡ false → interval_of (table_with polls n s) set ≡ interval_of polls set
+pub unset-request : (polls : List ℕ) (set n s : ℕ) → has? set n ≡ false → interval_of (table_with 0 polls n s) set ≡ interval_of polls set
 unfolding interval_of table_with
 unset-request polls set n s out = ap least_of (table-alike 8 _ _ each)
   where
@@ -127,23 +127,23 @@ module _ (polls : List ℕ) (set n : ℕ) where
       go true q = ap (λ (b : Bool). if b then by_number 0 polls n else 0) (own-switched set n on q)
       go false q = rw (none-outside eight (no_number n q)) (same (has? (switched_set set n on) n) on)
 
-  requested-own : (s : ℕ) → has? set n ≡ true → by_number 0 (table_with polls n s) n ≡ s
+  requested-own : (s : ℕ) → has? set n ≡ true → by_number 0 (table_with 0 polls n s) n ≡ s
   unfolding table_with
   requested-own s h = go (is_number n) refl
     where
-      go : (b : Bool) → is_number n ≡ b → by_number 0 (table_with polls n s) n ≡ s
+      go : (b : Bool) → is_number n ≡ b → by_number 0 (table_with 0 polls n s) n ≡ s
       go true q =
           let back : n ≡ suc (n - 1) = omega (arith, is-number n q) in
-          ap (by_number 0 (table_with polls n s)) back
+          ap (by_number 0 (table_with 0 polls n s)) back
           ∙ table_at 8 (λ i. if suc i == n then s else get_or polls i 0) (n - 1) 0 (omega (arith, is-number n q))
           ∙ ap (λ (b : Bool). if b then s else get_or polls (n - 1) 0) (eq-eqb (suc (n - 1)) n (sym back))
       go false q = clashing h (sym (has-none set n q))
 
-  pub after-request : (s : ℕ) → interval_of (table_with polls n s) set ≡ shorter_of (if has? set n then s else 0) (interval_of polls (switched_set set n false))
+  pub after-request : (s : ℕ) → interval_of (table_with 0 polls n s) set ≡ shorter_of (if has? set n then s else 0) (interval_of polls (switched_set set n false))
   after-request s =
-      interval-split (table_with polls n s) set n ∙ ap₂ shorter_of (go (has? set n) refl) (unset-request polls (switched_set set n false) n s (left_out set n))
+      interval-split (table_with 0 polls n s) set n ∙ ap₂ shorter_of (go (has? set n) refl) (unset-request polls (switched_set set n false) n s (left_out set n))
     where
-      go : (b : Bool) → has? set n ≡ b → (if b then by_number 0 (table_with polls n s) n else 0) ≡ (if b then s else 0)
+      go : (b : Bool) → has? set n ≡ b → (if b then by_number 0 (table_with 0 polls n s) n else 0) ≡ (if b then s else 0)
       go true h = requested-own s h
       go false h = refl
 
@@ -178,6 +178,6 @@ module _ (session interval off : Bool) (polls : List ℕ) (set n : ℕ) where
         : (s : ℕ) {r : Polling} {after : ℕ}
         → after ≡ (if counts then s else 0)
         → r ≡ polling_after session interval off (shorter_of before least) (shorter_of after least)
-        → r ≡ polling_after session interval off (interval_of polls set) (interval_of (table_with polls n s) set)
+        → r ≡ polling_after session interval off (interval_of polls set) (interval_of (table_with 0 polls n s) set)
     due-by-request s a e =
         e ∙ ap₂ (polling_after session interval off) before-whole (ap (λ (k : ℕ). shorter_of k least) (a ∙ rw counts-is refl) ∙ sym (after-request polls set n s))

@@ -6,10 +6,17 @@ ghost use Rattle.std.specs.Prelude.{◌≡◌, not, false};
 ghost use Rattle.std.specs.Prelude.{if◌then◌else◌, ◌==◌};
 ghost use Rattle.sets.specs.Sets.{switched_set};
 ghost use Rattle.rules.specs.Applets.{seconds_of};
-ghost use Rattle.applets.specs.ByNumber.{by_number, table_with};
+ghost use Rattle.applets.specs.ByNumber.{table_with};
 ghost use Rattle.polling.specs.Polls.{polling_set, shorter_of, interval_of, polling_after};
 
 use rules::Roll;
+
+// The requests for poll intervals by applet number, and the set of those that count: the selectable ones.
+#[derive(Clone, Copy)]
+pub struct Requests {
+    pub polls: [u16; Roll::APPLETS],
+    pub set: u8,
+}
 
 // Which of POLL INTERVAL and POLLING OFF is due.
 #[derive(Clone, Copy)]
@@ -22,178 +29,139 @@ pub struct Polling {
 pub fn seconds_of(duration: i16) -> u16
     ensures { result ≡ seconds_of duration }
 {
-    if duration < 0 {
-        return 0;
-    }
-    duration as u16
-}
-
-// An applet's request, by its number.
-pub fn poll_at(polls: [u16; Roll::APPLETS], applet: u8) -> u16
-    ensures { result ≡ by_number 0 polls applet }
-{
-    if applet == 0 {
-        return 0;
-    }
-    let i = (applet - 1) as usize;
-    if i < Roll::APPLETS {
-        return polls[i];
-    }
-    0
-}
-
-// The requests, with another one for an applet's number.
-pub fn poll_with(polls: [u16; Roll::APPLETS], applet: u8, seconds: u16) -> [u16; Roll::APPLETS]
-    ensures { result ≡ table_with polls applet seconds }
-{
-    let mut left = polls;
-    if applet != 0 {
-        let i = (applet - 1) as usize;
-        if i < Roll::APPLETS {
-            left[i] = seconds;
-        }
-    }
-    left
+    u16::try_from(duration).unwrap_or(0)
 }
 
 // Those who request an interval.
 pub fn polling_set(polls: [u16; Roll::APPLETS]) -> u8
     ensures { result ≡ polling_set polls }
 {
-    let mut set: u8 = 0;
-    let mut i: usize = Roll::APPLETS;
-    while 0 < i {
-        i -= 1;
-        set = set * 2;
-        if polls[i] != 0 {
-            set += 1;
-        }
+    let mut set = 0;
+    for i in (0..Roll::APPLETS).rev() {
+        set = set * 2 + u8::from(polls[i] != 0);
     }
     set
 }
 
-// Of two intervals the shorter; 0 is none.
+// Of two intervals the shorter; 0 is none, as in C's card.
 fn shorter(one: u16, other: u16) -> u16
     ensures { result ≡ shorter_of one other }
 {
     if one == 0 {
-        return other;
+        other
+    } else if other == 0 {
+        one
+    } else {
+        one.min(other)
     }
-    if other == 0 {
-        return one;
-    }
-    if one < other {
-        return one;
-    }
-    other
-}
-
-// The system interval, where those of a set are the selectable ones.
-pub fn system_interval(polls: [u16; Roll::APPLETS], set: u8) -> u16
-    ensures { result ≡ interval_of polls set }
-{
-    let mut least: u16 = 0;
-    let mut i: usize = Roll::APPLETS;
-    while 0 < i {
-        let counts = sets::has(set, i as u8);
-        i -= 1;
-        if counts {
-            least = shorter(polls[i], least);
-        }
-    }
-    least
-}
-
-// Whether there is a system interval.
-pub fn any_polled(polls: [u16; Roll::APPLETS], set: u8) -> bool
-    ensures { result ≡ not (interval_of polls set == 0) }
-{
-    let seconds = system_interval(polls, set);
-    seconds != 0
-}
-
-// What of polling is due after the interval turned, or did not.
-fn due_after(session: bool, interval: bool, off: bool, before: u16, after: u16) -> Polling
-    ensures { result ≡ polling_after session interval off before after }
-{
-    if session {
-        if before != after {
-            return Polling {
-                interval: after != 0,
-                off: after == 0,
-            };
-        }
-    }
-    Polling { interval, off }
 }
 
 // What counts of a request.
 fn counted(counts: bool, seconds: u16) -> u16
     ensures { result ≡ (if counts then seconds else 0) }
 {
-    if counts {
-        return seconds;
+    if counts { seconds } else { 0 }
+}
+
+impl Requests {
+    // The system interval.
+    pub fn interval(self) -> u16
+        ensures { result ≡ interval_of self.polls self.set }
+    {
+        let mut least = 0;
+        for i in (0..Roll::APPLETS).rev() {
+            if sets::has(self.set, i as u8 + 1) {
+                least = shorter(self.polls[i], least);
+            }
+        }
+        least
     }
-    0
-}
 
-// What of polling is due after what counts of one applet's request turned, or did not.
-fn due_turned(
-    session: bool,
-    interval: bool,
-    off: bool,
-    polls: [u16; Roll::APPLETS],
-    set: u8,
-    applet: u8,
-    before: u16,
-    after: u16,
-) -> Polling
-    ensures { result ≡ polling_after session interval off (shorter_of before (interval_of polls (switched_set set applet false))) (shorter_of after (interval_of polls (switched_set set applet false))) }
-{
-    if before == after {
-        return Polling { interval, off };
+    // Whether there is a system interval.
+    pub fn any(self) -> bool
+        ensures { result ≡ not (interval_of self.polls self.set == 0) }
+    {
+        self.interval() != 0
     }
-    let rest = sets::switched(set, applet, false);
-    let others = system_interval(polls, rest);
-    let was = shorter(before, others);
-    let is = shorter(after, others);
-    due_after(session, interval, off, was, is)
+
+    // The system interval of the others.
+    fn without(self, applet: u8) -> u16
+        ensures { result ≡ interval_of self.polls (switched_set self.set applet false) }
+    {
+        let mut rest = self;
+        rest.set = sets::switched(self.set, applet, false);
+        rest.interval()
+    }
 }
 
-// What of polling is due after an applet became selectable, or locked.
-pub fn due_switched(
-    session: bool,
-    interval: bool,
-    off: bool,
-    polls: [u16; Roll::APPLETS],
-    set: u8,
-    applet: u8,
-    on: bool,
-) -> Polling
-    ensures { result ≡ polling_after session interval off (interval_of polls set) (interval_of polls (switched_set set applet on)) }
-{
-    let own = poll_at(polls, applet);
-    let was = sets::has(set, applet);
-    let before = counted(was, own);
-    let after = counted(on, own);
-    due_turned(session, interval, off, polls, set, applet, before, after)
-}
+impl Polling {
+    // What is due after the interval turned, or did not.
+    fn after(self, session: bool, before: u16, after: u16) -> Polling
+        ensures { result ≡ polling_after session self.interval self.off before after }
+    {
+        if session && before != after {
+            Polling {
+                interval: after != 0,
+                off: after == 0,
+            }
+        } else {
+            self
+        }
+    }
 
-// What of polling is due after an applet's request.
-pub fn due_requested(
-    session: bool,
-    interval: bool,
-    off: bool,
-    polls: [u16; Roll::APPLETS],
-    set: u8,
-    applet: u8,
-    seconds: u16,
-) -> Polling
-    ensures { result ≡ polling_after session interval off (interval_of polls set) (interval_of (table_with polls applet seconds) set) }
-{
-    let own = poll_at(polls, applet);
-    let counts = sets::has(set, applet);
-    let before = counted(counts, own);
-    let after = counted(counts, seconds);
-    due_turned(session, interval, off, polls, set, applet, before, after)
+    // What is due after what counts of one applet's request turned, or did not.
+    fn after_turn(
+        self,
+        session: bool,
+        requests: Requests,
+        applet: u8,
+        before: u16,
+        after: u16,
+    ) -> Polling
+        ensures { result ≡ polling_after session self.interval self.off (shorter_of before (interval_of requests.polls (switched_set requests.set applet false))) (shorter_of after (interval_of requests.polls (switched_set requests.set applet false))) }
+    {
+        if before == after {
+            return self;
+        }
+        let others = requests.without(applet);
+        let was = shorter(before, others);
+        let is = shorter(after, others);
+        self.after(session, was, is)
+    }
+
+    // What is due after an applet became selectable, or locked.
+    pub fn after_switch(self, session: bool, requests: Requests, applet: u8, on: bool) -> Polling
+        ensures { result ≡ polling_after session self.interval self.off (interval_of requests.polls requests.set) (interval_of requests.polls (switched_set requests.set applet on)) }
+    {
+        let own = applets::by_number(0, &requests.polls, applet);
+        let was = sets::has(requests.set, applet);
+        self.after_turn(
+            session,
+            requests,
+            applet,
+            counted(was, own),
+            counted(on, own),
+        )
+    }
+
+    // What is due after an applet's request.
+    pub fn after_request(
+        self,
+        session: bool,
+        requests: Requests,
+        applet: u8,
+        seconds: u16,
+    ) -> Polling
+        ensures { result ≡ polling_after session self.interval self.off (interval_of requests.polls requests.set) (interval_of (table_with 0 requests.polls applet seconds) requests.set) }
+    {
+        let own = applets::by_number(0, &requests.polls, applet);
+        let counts = sets::has(requests.set, applet);
+        self.after_turn(
+            session,
+            requests,
+            applet,
+            counted(counts, own),
+            counted(counts, seconds),
+        )
+    }
 }

@@ -8,8 +8,9 @@ use mathlib.Core.List.{List, [], ◌∷◌}
 use lib.ListN.{length}
 use borrow.Author.Tests.{ltb-false}
 use Rattle.lists.specs.Tests.{◌≤?◌, ◌<?◌}
-use Rattle.std.specs.Prelude.{if◌then◌else◌}
+use Rattle.std.specs.Prelude.{if◌then◌else◌, Result}
 use Rattle.lists.proofs.Truth.{not-not}
+use Rattle.rules.specs.declared.Malformed.{Malformed}
 use Rattle.rules.specs.declared.Command.{Command}
 use Rattle.rules.specs.declared.Kind.{Kind}
 use Rattle.rules.specs.declared.Kind.TheVariants.{Event, Issuer, Reserved, Unsupported}
@@ -89,6 +90,6 @@ module _ (m : Model) (n : ℕ) {there : Bool} (found : there ≡ not (absent m.t
   turn-refusal i on o e = e ∙ rw (found, ← not-not (absent t n), o, ← not-not (not_its_row n i t.rows)) refl ∙ sym (turn_lines m n i on)
 
   -- send
-  pub send-is : (bytes : List ℕ) {k : Command} {r : ℕ} → k ≡ command_of bytes → r ≡ send_refusal t n there m.desk.outstanding k → r ≡ refusal m (proactive (send n bytes))
+  pub send-is : (bytes : List ℕ) {k : Result Command Malformed} {r : ℕ} → k ≡ command_of bytes → r ≡ send_refusal t n there m.desk.outstanding k → r ≡ refusal m (proactive (send n bytes))
   unfolding send_refusal refusal lines proactive_lines
   send-is bytes says e = e ∙ rw (found, ← not-not (absent t n), says) refl

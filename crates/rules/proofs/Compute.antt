@@ -33,11 +33,11 @@ unfolding events'.codes events'.named events'.kind_of events'.kind_of_code event
 open_events = tt
 
 unfoldable pub open_bytes : Unit {0}
-unfolding bytes'.tag_size bytes'.tag_number bytes'.long_length bytes'.length_at bytes'.valued bytes'.element_by bytes'.element_at bytes'.run_by bytes'.run_at bytes'.is_run bytes'.first_value bytes'.occurring bytes'.found bytes'.is_found bytes'.part_of bytes'.outer_by bytes'.outer_of
+unfolding bytes'.tag_size bytes'.tag_number bytes'.long_length bytes'.length_at bytes'.valued bytes'.element_by bytes'.element_at bytes'.run_by bytes'.run_at bytes'.is_run bytes'.first_value bytes'.occurring bytes'.found bytes'.part_of bytes'.outer_by bytes'.outer_of
 open_bytes = tt
 
 unfoldable pub open_envelopes : Unit {0}
-unfolding envelopes'.is_sized envelopes'.only_byte envelopes'.one_byte envelopes'.with_byte envelopes'.with_devices envelopes'.help_in envelopes'.selection envelopes'.envelope_by envelopes'.with_outer envelopes'.envelope_of envelopes'.bad_envelope envelopes'.behind_length envelopes'.content_at envelopes'.content_of envelopes'.type_in envelopes'.of_type envelopes'.command_by envelopes'.command_of envelopes'.bad_command envelopes'.system_type
+unfolding envelopes'.is_sized envelopes'.only_byte envelopes'.one_byte envelopes'.with_byte envelopes'.with_devices envelopes'.help_in envelopes'.selection envelopes'.envelope_by envelopes'.with_outer envelopes'.envelope_of envelopes'.behind_length envelopes'.content_at envelopes'.content_of envelopes'.type_in envelopes'.of_type envelopes'.command_by envelopes'.command_of envelopes'.system_type
 open_envelopes = tt
 
 unfoldable pub open_applets : Unit {0}

@@ -9,3 +9,4 @@ pub mod DueMarks
 pub mod Held
 pub mod Reader
 pub mod Listed
+pub mod Numbers

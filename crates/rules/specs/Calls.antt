@@ -1,9 +1,11 @@
 -- The public calls of the card with their raw inputs, and what they answer.
-use Rattle.std.specs.Prelude.{ℕ, Bool, false, List, [], ℤ}
+use Rattle.std.specs.Prelude.{ℕ, Bool, false, List, [], ℤ, Result, Ok, Err}
+use Rattle.rules.specs.declared.refused.Refused.{Refused}
 use Rattle.rules.specs.declared.Request.{Request}
 use Rattle.rules.specs.declared.Marks.{Marks}
 use Rattle.rules.specs.Holds.{Model}
 use Rattle.rules.specs.Arrivals.{no_marks}
+use Rattle.rules.specs.Numbers.{number_of}
 
 -- The calls, by what they touch. An applet is any number, an event value and a duration any signed number, bytes any bytes.
 pub data AdminCall : Type 0 where
@@ -80,3 +82,8 @@ marking marks = record { refusal = 0; number = 0; says = false; called = []; mar
 
 abbrev pub calling : List ℕ → Answer
 calling l = record { refusal = 0; number = 0; says = false; called = l; marks = no_marks }
+
+-- the answer with what an accepted call gives, or the refusal
+unfoldable pub answer_with : {A : Type 0} → (A → Answer) → Result A Refused → Answer
+answer_with told (Ok given) = told given
+answer_with told (Err refusal) = refused_with (number_of refusal)

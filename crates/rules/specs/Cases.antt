@@ -1,12 +1,11 @@
 -- Document 01's table of proved cases and its easy slips, and those of polling and of rounds (document 02, Asks 1 and 2), each about `step` on
 -- a card that calls have left; proved in proofs/Cases.antt.
-use Rattle.std.specs.Prelude.{ℕ, ◌≡◌, true, false, List, [], ◌∷◌, ◌++◌, map, reverse, replicate, ℤ, pos}
+use Rattle.std.specs.Prelude.{ℕ, ◌≡◌, true, false, List, [], ◌∷◌, ◌++◌, map, reverse, replicate, ℤ, pos, Ok, Err}
 use Rattle.lists.specs.Text.{bytes}
 use Rattle.rules.specs.declared.Pair.{Pair}
 use Rattle.rules.specs.declared.Due.{Due}
-use Rattle.rules.specs.declared.Len.TheVariants.{Known, Bad}
 use Rattle.rules.specs.Holds.{Row, Model, document, nothing_due}
-use Rattle.rules.specs.Bytes.{length_at}
+use Rattle.rules.specs.Bytes.{malformed, length_at}
 use Rattle.rules.specs.Events.{minus}
 use Rattle.rules.specs.Commands.{interval, duration_bytes, interval_bytes, off_bytes}
 use Rattle.rules.specs.Calls.{Call, admin, event, entry, timer, arrival, next, proactive, system_command}
@@ -79,8 +78,8 @@ pub record Cases : Type 0 where
   pub one-more-with-1 : refusal_after four_each (plain 4 0 1) ≡ 5
   pub one-more-with-0 : refusal_after four_each (plain 4 0 0) ≡ 0
   -- Length 81 7F malformed, 81 80 read. As a length, and in envelopes with so many bytes.
-  pub length-7F : length_at (bytes "81 7F") 0 ≡ Bad
-  pub length-80 : length_at (bytes "81 80") 0 ≡ Known 0x80 2
+  pub length-7F : length_at (bytes "81 7F") 0 ≡ Err malformed
+  pub length-80 : length_at (bytes "81 80") 0 ≡ Ok (record { len = 0x80; next = 2 })
   pub envelope-7F : refusal_after [] (arrival (envelope (bytes "C1 81 7F 01 7D" ++ replicate 125 0))) ≡ 1
   pub envelope-80 : refusal_after [] (arrival (envelope (bytes "C1 81 80 01 7E" ++ replicate 126 0))) ≡ 0
   -- Text 15 taken, 16 refused with 12.

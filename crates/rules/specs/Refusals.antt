@@ -16,10 +16,11 @@
 -- The calls that need no card (a fresh card, the menu reader, the bank alone) stand in Beside.
 use Rattle.std.specs.Prelude.{ℕ, Bool, false, not, ◌&&◌, ◌||◌, List, [], ◌∷◌, length}
 use Rattle.lists.specs.Tests.{◌<?◌}
-use Rattle.std.specs.Prelude.{if◌then◌else◌}
+use Rattle.std.specs.Prelude.{if◌then◌else◌, Result, Ok, Err}
 use Rattle.lists.specs.Lists.{empty?}
 use Rattle.rules.specs.declared.Command.{Command}
-use Rattle.rules.specs.declared.Command.TheVariants.{Plain, Timer, Malformed}
+use Rattle.rules.specs.declared.Command.TheVariants.{Plain, Timer}
+use Rattle.rules.specs.declared.Malformed.{Malformed}
 use Rattle.rules.specs.Holds.{Tables, Desk, Model}
 use Rattle.rules.specs.Events.{kind_of, not_supported, not_to_set, is_control}
 use Rattle.rules.specs.Envelopes.{envelope_of, bad_envelope, command_of, bad_command, system_type}
@@ -49,10 +50,10 @@ unfoldable pub absent : Tables → (applet : ℕ) → Bool
 absent t n = not (is_number t.bounds n) || not (present t n)
 
 -- refusal 15 is for timer management only
-unfoldable pub foreign_timer : Tables → (applet : ℕ) → Command → Bool
-foreign_timer t n (Timer k) = not_its_timer t.timers n k
-foreign_timer t n (Plain type) = false
-foreign_timer t n Malformed = false
+unfoldable pub foreign_timer : Tables → (applet : ℕ) → Result Command Malformed → Bool
+foreign_timer t n (Ok (Timer k)) = not_its_timer t.timers n k
+foreign_timer t n (Ok (Plain type)) = false
+foreign_timer t n (Err e) = false
 
 -- install, delete, lock, unlock
 unfoldable pub admin_lines : Tables → AdminCall → List Line

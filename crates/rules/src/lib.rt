@@ -1,11 +1,14 @@
-// The plain types that the rules of document 01 speak of. The rules themselves stand in specs/, one file for each section.
+// The plain types that the rules of document 01 speak of; the rules stand in specs/. Those marked repr(C) are laid out for C and take no heap: a kind is
+// a byte in them and a list an array with its count, and no invariant, for `stored_rows` and its like (specs/Held.antt) give them of any list.
 #![tactic(auto)]
 
 pub mod refused;
 
+pub use refused::Refused;
+
 // The position and the identifier that an applet requests for a menu entry.
 #[repr(C)]
-#[derive(Clone, Copy)]
+#[derive(Clone, Copy, Default)]
 pub struct Pair {
     pub position: u8,
     pub identifier: u8,
@@ -37,8 +40,7 @@ impl Grant {
     pub const ENTRIES: usize = 4;
 }
 
-// What installs fix of the applets: their numbers in order of installation and in order of call, by number what each was
-// installed with, and the set of their numbers.
+// The applets: their numbers in order of installation and of call, by number what each was installed with, and the set of their numbers.
 #[repr(C)]
 #[derive(Clone, Copy)]
 pub struct Roll {
@@ -160,7 +162,7 @@ pub enum Kind {
     Unsupported,
 }
 
-// The places of the events.
+// The places of the events: numbers, for a place is an index of the C card's `registered` and a byte of `Arrived`.
 impl Kind {
     pub const EVENTS: usize = 20;
 
@@ -205,24 +207,24 @@ impl Kind {
     pub const HANDLER_AVAILABLE: u8 = 19;
 }
 
+// Why a reader gives nothing: the bytes are not what they should be.
+#[derive(Clone, Copy)]
+pub struct Malformed;
+
 // A length: how many value bytes, and where they start.
 #[derive(Clone, Copy)]
-pub enum Len {
-    Known { len: u8, next: usize },
-    Bad,
+pub struct Length {
+    pub len: u8,
+    pub next: usize,
 }
 
-// What stands at a position of a run: a whole element (its tag's number, its value's start and length, the position past it).
+// A whole element: its tag's number, its value's start and length, the position past it.
 #[derive(Clone, Copy)]
-pub enum Element {
-    Whole {
-        number: u16,
-        start: usize,
-        len: usize,
-        next: usize,
-    },
-    Malformed,
-    End,
+pub struct Element {
+    pub number: u16,
+    pub start: usize,
+    pub len: usize,
+    pub next: usize,
 }
 
 // A part of the caller's bytes.
@@ -232,33 +234,11 @@ pub struct Span {
     pub len: usize,
 }
 
-// What finding an element gives: where its value stands.
-#[derive(Clone, Copy)]
-pub enum Found {
-    At(Span),
-    Nothing,
-}
-
 // The outer tag, and where its value starts, which goes on to the end.
 #[derive(Clone, Copy)]
-pub enum Outer {
-    Tlv { tag: u8, start: usize },
-    Malformed,
-}
-
-// A value that is to be one byte.
-#[derive(Clone, Copy)]
-pub enum Byte {
-    One(u8),
-    Other,
-}
-
-// A help request.
-#[derive(Clone, Copy)]
-pub enum Help {
-    Asked,
-    Silent,
-    Bad,
+pub struct Outer {
+    pub tag: u8,
+    pub start: usize,
 }
 
 // What an envelope says.
@@ -269,7 +249,6 @@ pub enum Envelope {
     Download { code: u8 },
     Expiry { timer: u8 },
     Unrecognized,
-    Malformed,
 }
 
 // What a command given to send says: its type, or the timer that it manages.
@@ -277,22 +256,20 @@ pub enum Envelope {
 pub enum Command {
     Plain { kind: u8 },
     Timer { timer: u8 },
-    Malformed,
 }
 
 // The handlers available to those called.
 #[repr(C)]
-#[derive(Clone, Copy)]
+#[derive(Clone, Copy, Default)]
 pub struct Marks {
     pub proactive: bool,
     pub envelope: bool,
     pub response: bool,
 }
 
-// The answer of a call on a card or a bank: the refusal's number (0: none), a number (an identifier, a timer, or the length of a
-// command), a yes or no, the applet called (0: nobody), and the marks.
+// The answer of a call: the refusal's number (0: none), a number (an identifier, a timer, a length), a yes or no, the applet called (0: nobody), the marks.
 #[repr(C)]
-#[derive(Clone, Copy)]
+#[derive(Clone, Copy, Default)]
 pub struct Answer {
     pub refusal: u8,
     pub number: u8,

@@ -1,44 +1,50 @@
-// The refusal numbers of documents 01 and 02, in their order; specs/Refusals.antt says when each is given.
-pub const MALFORMED: u8 = 1;
+// The refusals of documents 01 and 02 with their numbers; specs/Refusals.antt says when each is given.
+ghost use Rattle.std.specs.Prelude.{◌≡◌, true, false, [], ◌∷◌, IfErr, OnOk};
+ghost use Rattle.rules.specs.Numbers.{number_of, refusal_number};
+ghost use Rattle.rules.specs.Refusals.{line, first_holding};
 
-pub const NO_APPLET: u8 = 2;
+#[derive(Clone, Copy, PartialEq, Eq)]
+pub enum Refused {
+    Malformed = 1,
+    NoApplet = 2,
+    NumberInUse = 3,
+    OutOfRange = 4,
+    TooManyEntries = 5,
+    IdentifierTwice = 6,
+    NotSupported = 7,
+    NotToSet = 8,
+    ControlOwned = 9,
+    AllMade = 10,
+    NotItsRow = 11,
+    BadText = 12,
+    TimerLimit = 13,
+    NoTimerFree = 14,
+    NotItsTimer = 15,
+    Outstanding = 16,
+    SystemType = 17,
+    ShortBuffer = 18,
+    NoneOutstanding = 19,
+    BadDuration = 20,
+    NoRound = 21,
+    RoundOpen = 22,
+}
 
-pub const NUMBER_IN_USE: u8 = 3;
+impl Refused {
+    // The refusal's number.
+    #[tactic(auto, using(crate::proofs::Numbers::variant_number))]
+    pub fn number(self) -> u8
+        ensures { result ≡ number_of self }
+    {
+        self as u8
+    }
 
-pub const OUT_OF_RANGE: u8 = 4;
-
-pub const TOO_MANY_ENTRIES: u8 = 5;
-
-pub const IDENTIFIER_TWICE: u8 = 6;
-
-pub const NOT_SUPPORTED: u8 = 7;
-
-pub const NOT_TO_SET: u8 = 8;
-
-pub const CONTROL_OWNED: u8 = 9;
-
-pub const ALL_MADE: u8 = 10;
-
-pub const NOT_ITS_ROW: u8 = 11;
-
-pub const BAD_TEXT: u8 = 12;
-
-pub const TIMER_LIMIT: u8 = 13;
-
-pub const NO_TIMER_FREE: u8 = 14;
-
-pub const NOT_ITS_TIMER: u8 = 15;
-
-pub const OUTSTANDING: u8 = 16;
-
-pub const SYSTEM_TYPE: u8 = 17;
-
-pub const SHORT_BUFFER: u8 = 18;
-
-pub const NONE_OUTSTANDING: u8 = 19;
-
-pub const BAD_DURATION: u8 = 20;
-
-pub const NO_ROUND: u8 = 21;
-
-pub const ROUND_OPEN: u8 = 22;
+    // One line of the table: this refusal, where the line holds.
+    #[tactic(auto, unfolding(crate::specs::Numbers::refusal_number, crate::specs::Refusals::first_holding))]
+    pub fn when(self, holds: bool) -> Result<(), Refused>
+        ensures line { refusal_number result ≡ first_holding (line (number_of self) holds ∷ []) }
+        ensures refused { IfErr result (λ refusal. (refusal ≡ self) × (holds ≡ true)) }
+        ensures accepted { OnOk result (holds ≡ false) }
+    {
+        if holds { Err(self) } else { Ok(()) }
+    }
+}

@@ -9,20 +9,21 @@ use mathlib.Core.List.{List}
 use mathlib.Core.Logic.{⊎_elim}
 use lib.ListN.{length, take, drop, length-drop}
 use lib.Seq.{length-take-le}
-use Rattle.texts.specs.Places.{index_of}
+use Rattle.std.specs.Prelude.{Result, Ok, Err}
+use Rattle.script_line.specs.declared.Cause.{Cause}
 use Rattle.script.specs.declared.Stop.{Stop}
-use Rattle.script.specs.declared.Stop.TheVariants.{End, Full, Bad}
+use Rattle.script.specs.declared.Stop.TheVariants.{End, Full}
 use Rattle.script.specs.declared.Progress.{Progress}
-use Rattle.script.specs.Texts.{Standing, Reads, Good, Stops, Composed, behind_lines, records_of, first_line, line_meaning}
+use Rattle.script.specs.Texts.{line_length, Standing, Reads, Good, Stops, Composed, behind_lines, records_of, first_line, line_meaning}
 
 module _ {at records lines : ℕ} {text out : List ℕ} where
   -- where composing stops, no line is read
-  stops-not-reads : (last : Bool) (x : Stop) → Standing last at records lines text out → Stops x last (drop at text) out records → Reads last (length out) lines text → ⊥
+  stops-not-reads : (last : Bool) (x : Result Stop Cause) → Standing last at records lines text out → Stops x last (drop at text) out records → Reads last (length out) lines text → ⊥
   unfolding Good
-  stops-not-reads true End s e r = omega (arith, ap length e, ap length s.left, r.some)
-  stops-not-reads false End s e r = let w = subst (λ (t : List ℕ). index_of 0x0A t ≡ length t) s.left e.0 in omega (arith, w, r.ended)
-  stops-not-reads last Full s e r = omega (arith, e.1, r.roomy, ap length s.made, length-take-le (records * 24) out s.fits)
-  stops-not-reads last (Bad c) s e r = rw (ap (λ t. line_meaning (first_line t)) (sym s.left) ∙ e.0) at r.good
+  stops-not-reads true (Ok End) s e r = omega (arith, ap length e, ap length s.left, r.some)
+  stops-not-reads false (Ok End) s e r = let w = subst (λ (t : List ℕ). line_length t ≡ length t) s.left e.0 in omega (arith, w, r.ended)
+  stops-not-reads last (Ok Full) s e r = omega (arith, e.1, r.roomy, ap length s.made, length-take-le (records * 24) out s.fits)
+  stops-not-reads last (Err c) s e r = rw (ap (λ t. line_meaning (first_line t)) (sym s.left) ∙ e.0) at r.good
 
 module _ (last : Bool) (text : List ℕ) (r q : Progress) (out old : List ℕ) (long : length out ≡ length old) (a : Composed r last text out) (b : Composed q last text old) where
   pub lines-once : r.lines ≡ q.lines

@@ -2,95 +2,64 @@
 // A line ends at a line feed; a carriage return before that does not count.
 #![tactic(auto)]
 
-ghost use Rattle.std.specs.Prelude.{◌≡◌, ◌+◌, ◌≤◌, ◌<◌, length};
-ghost use Rattle.script_line.specs.Records.{heard};
-ghost use Rattle.script.specs.Texts.{Composed, made_of, trimmed_of, line_meaning, unfinished_of, ended_of};
+ghost use Rattle.std.specs.Prelude.{◌≡◌, ◌+◌, take, drop, Err, MatchOption, MatchResult};
+ghost use Rattle.script.specs.Texts.{Composed, Ended, Ends, trimmed_of, line_meaning, line_length, first_line};
 
-use script_line::{Cause, Outcome, record};
+use script_line::{Cause, record};
 
-// Where the composing of a text stopped.
-#[derive(Drop)]
+// Why composing ends where no line is bad: nothing is left of the text, or there is no room for a record.
+#[derive(Clone, Copy, PartialEq, Eq)]
 pub enum Stop {
     End,
     Full,
-    Bad(Cause),
 }
 
-// How far a text was composed: bytes read, records written, lines read.
-#[derive(Drop)]
+// How far a text was composed: bytes read, records written, lines read, and why no further.
+#[derive(Clone, Copy)]
 pub struct Progress {
     pub at: usize,
     pub records: usize,
     pub lines: usize,
-    pub stop: Stop,
+    pub stop: Result<Stop, Cause>,
 }
 
 // A line without the carriage return at its end.
-fn trimmed(line: &[u8]) -> usize
-    ensures { (result ≡ trimmed_of line.now) × (result ≤ length line.now) }
+#[tactic(auto, unfolding(crate::specs::Texts::trimmed_of))]
+fn trimmed(line: &[u8]) -> &[u8]
+    ensures { result.now ≡ take (trimmed_of line.now) line.now }
 {
-    let n = line.len();
-    if n == 0 {
-        return 0;
+    match line {
+        [front @ .., b'\r'] => front,
+        _ => line,
     }
-    if line[n - 1] == b'\r' {
-        return n - 1;
-    }
-    n
 }
 
 // The record of a line of at most 200 bytes.
-fn line_record(line: &[u8], out: &mut [u8]) -> Outcome
-    requires { length out.old ≡ 24 }
-    ensures { heard result out.new ≡ line_meaning line.now }
+#[tactic(auto, unfolding(crate::specs::Texts::line_meaning))]
+fn line_record(line: &[u8]) -> Result<Option<[u8; 24]>, Cause>
+    ensures { result ≡ line_meaning line.now }
 {
     if 200 < line.len() {
-        return Outcome::Bad(Cause::LongLine);
+        return Err(Cause::LongLine);
     }
-    let n = trimmed(line);
-    record(&line[..n], out)
+    record(trimmed(line))
 }
 
-// Where the next line starts.
-fn behind(text: &[u8], end: usize) -> usize
-    requires { end ≤ length text.now }
-    ensures { (end ≤ result) × (result ≤ length text.now) × (end < length text.now → result ≡ end + 1) }
+// The line that a text starts with, and what is left behind it; none where the line may still go on.
+// A line that may go on is bad where it is too long already.
+fn next_line(text: &[u8], last: bool) -> Result<Option<(&[u8], &[u8])>, Cause>
+    ensures { MatchResult result
+        (λ next. MatchOption next
+        (Ends last text.now)
+        (λ parts. Ended last text.now × (parts.0.now ≡ first_line text.now) × (parts.1.now ≡ drop (line_length text.now + 1) text.now)))
+        (λ c. line_meaning (first_line text.now) ≡ Err c) }
 {
-    if end < text.len() {
-        return end + 1;
+    match texts::place(text, b'\n') {
+        Some(n) => Ok(Some((&text[..n], &text[n + 1..]))),
+        None if last => Ok(Some((text, &[]))),
+        None if 200 < text.len() => Err(Cause::LongLine),
+        None => Ok(None),
     }
-    end
-}
-
-// What a line that may still go on says: nothing yet, unless it is too long already.
-fn unfinished(left: usize) -> Stop
-    ensures { result ≡ unfinished_of left }
-{
-    if 200 < left {
-        return Stop::Bad(Cause::LongLine);
-    }
-    Stop::End
-}
-
-// How many records a line gave.
-fn made(outcome: Outcome) -> usize
-    ensures { result ≡ made_of outcome }
-{
-    match outcome {
-        Outcome::Record => 1,
-        Outcome::Blank => 0,
-        Outcome::Bad(_) => 0,
-    }
-}
-
-// Why composing ends where no line is bad: nothing is left of the text, or there is no room for a record.
-fn ended(left: usize) -> Stop
-    ensures { result ≡ ended_of left }
-{
-    if left == 0 {
-        return Stop::End;
-    }
-    Stop::Full
 }
 
 // The records of a text's lines, one behind the other, up to the first line that is bad or for which `out` has no room.
@@ -98,40 +67,38 @@ fn ended(left: usize) -> Stop
 pub fn compose(text: &[u8], out: &mut [u8], last: bool) -> Progress
     ensures { Composed result last text.now out.new }
 {
-    let mut at = 0;
+    let mut left = text;
     let mut records = 0;
     let mut lines = 0;
-    while at < text.len() && 24 <= out.len() - records * 24 {
-        let end = texts::find(text, at, text.len(), b'\n');
-        if end == text.len() {
-            if !last {
-                return Progress {
-                    at,
-                    records,
-                    lines,
-                    stop: unfinished(end - at),
-                };
-            }
+    // a turn for each line, as long as it may be: no index is counted
+    let stop = loop {
+        if left.is_empty() {
+            break Ok(Stop::End);
         }
-        let wrote = records * 24;
-        let past = wrote + 24;
-        let outcome = line_record(&text[at..end], &mut out[wrote..past]);
-        if let Outcome::Bad(c) = outcome {
-            return Progress {
-                at,
-                records,
-                lines,
-                stop: Stop::Bad(c),
-            };
+        if out.len() - records * 24 < 24 {
+            break Ok(Stop::Full);
         }
-        records += made(outcome);
+        let (line, behind) = match next_line(left, last) {
+            Ok(Some(parts)) => parts,
+            Ok(None) => break Ok(Stop::End),
+            Err(cause) => break Err(cause),
+        };
+        let record = match line_record(line) {
+            Ok(record) => record,
+            Err(cause) => break Err(cause),
+        };
+        if let Some(record) = record {
+            let wrote = records * 24;
+            out[wrote..wrote + 24].copy_from_slice(&record);
+            records += 1;
+        }
         lines += 1;
-        at = behind(text, end);
-    }
+        left = behind;
+    };
     Progress {
-        at,
+        at: text.len() - left.len(),
         records,
         lines,
-        stop: ended(text.len() - at),
+        stop,
     }
 }

@@ -1,33 +1,27 @@
 -- The record that a line means is one that the floor program takes.
 -- Assumes nothing.
-use Prim.Native.Nat.{ℕ, suc, ◌+◌, ◌-◌, ◌≤◌, ◌<◌}
-use native.Mathlib.Omega.{arith}
+use Rattle.std.proofs.Common.{ℕ, suc, ◌≡◌, ◌+◌, ◌-◌, ◌≤◌, ◌<◌, Option, Some, None, Ok, Err, List, [], ◌∷◌, ◌++◌, length, get_or, replicate, length-append, refl, sym, ap, ◌∙◌, arith}
 use native.Mathlib.Nat.{eq-zero-or-pos}
-use mathlib.Core.Path.{◌≡◌, refl, sym, ap, ◌∙◌}
-use mathlib.Core.List.{List, [], ◌∷◌, ◌++◌}
 use mathlib.Core.Logic.{⊎_elim}
 use lib.Dec.{eqb, ltb}
-use lib.ListN.{length, get_or, replicate, length-append, length-replicate, get_or-replicate, get_or-eq_default}
+use lib.ListN.{get_or-eq_default, length-replicate, get_or-replicate}
 use lib.Seq.{get_or-append-add}
 use borrow.Author.Tests.{eqb-false, ltb-false}
 use Rattle.lists.specs.Lists.{padded, empty?}
 use Rattle.lists.proofs.Padded.{length-padded, get-padded}
 use Rattle.lists.proofs.Ifs.{if-holds}
-use Rattle.script_line.specs.Words.{space?, skipped, word, behind, byte_of, signed_of}
-use Rattle.script_line.specs.Lines.{Said, said, bad, Place, between, in_word, in_text, behind_text, with_byte, with_number, bytes_from, bytes_of, installed, helped, only_if_last, event_of, arguments_of, record_of, record_by, named_by, applet_of, lettered, form_of, by_letter, Meaning, blank, a_record, wrong, meaning_of}
+use Rattle.script_line.specs.Words.{Number, space?, skipped, word, behind, byte_of, signed_of}
+use Rattle.script_line.specs.Lines.{Said, Place, between, in_word, in_text, behind_text, with_byte, with_number, bytes_from, bytes_of, installed, helped, only_if_last, event_of, arguments_of, record_of, record_by, named_by, applet_of, lettered, form_of, by_letter, Meaning, meaning_of}
 use Rattle.script_line.specs.Records.{Fills, Suits, Taken}
-use Rattle.script_line.proofs.WordLaws.{above_zero}
-use Rattle.script_line.specs.declared.Number.{Number}
-use Rattle.script_line.specs.declared.Number.TheVariants as number
 use Rattle.script_line.specs.declared.Kind.{Kind}
 use Rattle.script_line.specs.declared.Kind.TheVariants.{Install, Entry, Event, Nothing}
 use Rattle.script_line.specs.declared.Form.{Form}
-use Rattle.script_line.specs.declared.Form.TheVariants.{Applet, Bytes, Alone, Unknown}
+use Rattle.script_line.specs.declared.Form.TheVariants.{Applet, Bytes, Alone}
 
 -- P holds of the bytes, where there are any
 unfoldable SaidSo : (List ℕ → Type 0) → Said → Type 0
-SaidSo P (said l) = P l
-SaidSo P (bad c) = Unit
+SaidSo P (Ok l) = P l
+SaidSo P (Err c) = Unit
 
 module _ (n : ℕ) where
   unfoldable Few : Said → Type 0
@@ -42,8 +36,8 @@ module _ (n : ℕ) where
 
   number-few : (l : List ℕ) (v : Number) (more : List ℕ → Said) → length l ≤ n → ((k : List ℕ) → length k ≤ n → Few (more k)) → Few (with_number n l v more)
   unfolding with_number Few SaidSo
-  number-few l (number.Value v) more h f = byte-few l v more h f
-  number-few l (number.Bad c) more h f = tt
+  number-few l (Ok v) more h f = byte-few l v more h f
+  number-few l (Err c) more h f = tt
 
   -- no more bytes are read than there is room for
   bytes-few : (s : List ℕ) (l : List ℕ) (p : Place) → length l ≤ n → Few (bytes_from n l p s)
@@ -69,17 +63,17 @@ record Filled (kind : Kind) (l : List ℕ) : Type 0 where
 
 installed-filled : (x : Said) → Few 12 x → SaidSo (Filled Install) (installed x)
 unfolding Few SaidSo installed
-installed-filled (said l) h = let e = length-padded 12 0 l h in record { few = omega arith; fills = e }
-installed-filled (bad c) h = tt
+installed-filled (Ok l) h = let e = length-padded 12 0 l h in record { few = omega arith; fills = e }
+installed-filled (Err c) h = tt
 
 helped-filled : (x : Said) → Few 20 x → SaidSo (Filled Entry) (helped x)
 unfolding Few SaidSo helped
-helped-filled (said l) h =
+helped-filled (Ok l) h =
     if-holds (SaidSo (Filled Entry)) (eqb (length l) 0) (λ _. tt)
     (λ e. if-holds (SaidSo (Filled Entry)) (ltb 1 (get_or l 0 0)) (λ _. tt)
-    (λ f. let p : 0 < length l = above_zero (eqb-false _ _ e) in let q : get_or l 0 0 ≤ 1 = ltb-false _ _ f in
+    (λ f. let n = eqb-false (length l) 0 e in let p : 0 < length l = omega arith in let q : get_or l 0 0 ≤ 1 = ltb-false _ _ f in
     record { few = h; fills = (p, rw (get-padded 21 0 l 0 0 p) q) }))
-helped-filled (bad c) h = tt
+helped-filled (Err c) h = tt
 
 last-filled : (kind : Kind) (l s : List ℕ) → Filled kind l → SaidSo (Filled kind) (only_if_last l s)
 unfolding SaidSo only_if_last
@@ -87,8 +81,8 @@ last-filled kind l s f = if-holds (SaidSo (Filled kind)) (empty? (skipped s)) (�
 
 event-filled : (v : Number) (s : List ℕ) → SaidSo (Filled Event) (event_of v s)
 unfolding SaidSo event_of
-event-filled (number.Value v) s = last-filled Event _ s (record { few = omega arith; fills = refl })
-event-filled (number.Bad c) s = tt
+event-filled (Ok v) s = last-filled Event _ s (record { few = omega arith; fills = refl })
+event-filled (Err c) s = tt
 
 arguments-filled : (kind : Kind) (s : List ℕ) → SaidSo (Filled kind) (arguments_of kind s)
 unfolding SaidSo arguments_of
@@ -116,35 +110,35 @@ record-taken letter applet l h x = record {
 
 -- a record that is meant is taken
 unfoldable Fine : Meaning → Type 0
-Fine blank = Unit
-Fine (a_record s) = Taken s
-Fine (wrong c) = Unit
+Fine (Ok None) = Unit
+Fine (Ok (Some s)) = Taken s
+Fine (Err c) = Unit
 
-named-fine : (kind : Kind) (letter applet : ℕ) → Applet kind ≡ form_of letter → (x : Said) → SaidSo (Filled kind) x → Fine (record_by letter applet x)
+named-fine : (kind : Kind) (letter applet : ℕ) → Some (Applet kind) ≡ form_of letter → (x : Said) → SaidSo (Filled kind) x → Fine (record_by letter applet x)
 unfolding SaidSo Fine record_by
-named-fine kind letter applet e (said l) f = record-taken letter applet l f.few (rw (sym e) f.fills)
-named-fine kind letter applet e (bad c) f = tt
+named-fine kind letter applet e (Ok l) f = record-taken letter applet l f.few (rw (sym e) f.fills)
+named-fine kind letter applet e (Err c) f = tt
 
-alone-fine : (letter : ℕ) (s : List ℕ) → Alone ≡ form_of letter → Fine (record_by letter 0 (only_if_last [] s))
+alone-fine : (letter : ℕ) (s : List ℕ) → Some Alone ≡ form_of letter → Fine (record_by letter 0 (only_if_last [] s))
 unfolding Fine record_by only_if_last
 alone-fine letter s e = if-holds (λ x. Fine (record_by letter 0 x)) (empty? (skipped s)) (λ _. record-taken letter 0 [] (omega arith) (rw (sym e) (refl, refl))) (λ _. tt)
 
-bytes-fine : (letter : ℕ) → Bytes ≡ form_of letter → (x : Said) → Few 20 x → Fine (record_by letter 0 x)
+bytes-fine : (letter : ℕ) → Some Bytes ≡ form_of letter → (x : Said) → Few 20 x → Fine (record_by letter 0 x)
 unfolding SaidSo Few Fine record_by
-bytes-fine letter e (said l) h = record-taken letter 0 l h (rw (sym e) refl)
-bytes-fine letter e (bad c) h = tt
+bytes-fine letter e (Ok l) h = record-taken letter 0 l h (rw (sym e) refl)
+bytes-fine letter e (Err c) h = tt
 
-by-applet : (kind : Kind) (letter : ℕ) → Applet kind ≡ form_of letter → (v : Number) (s : List ℕ) → Fine (named_by kind letter v s)
+by-applet : (kind : Kind) (letter : ℕ) → Some (Applet kind) ≡ form_of letter → (v : Number) (s : List ℕ) → Fine (named_by kind letter v s)
 unfolding Fine named_by
-by-applet kind letter e (number.Value a) s = named-fine kind letter a e (arguments_of kind s) (arguments-filled kind s)
-by-applet kind letter e (number.Bad c) s = tt
+by-applet kind letter e (Ok a) s = named-fine kind letter a e (arguments_of kind s) (arguments-filled kind s)
+by-applet kind letter e (Err c) s = tt
 
-by_form : (f : Form) (letter : ℕ) → f ≡ form_of letter → (s : List ℕ) → Fine (lettered f letter s)
+by_form : (f : Option Form) (letter : ℕ) → f ≡ form_of letter → (s : List ℕ) → Fine (lettered f letter s)
 unfolding Fine lettered
-by_form (Applet kind) letter e s = by-applet kind letter e (applet_of s) (behind (skipped s))
-by_form Bytes letter e s = bytes-fine letter e (bytes_of 20 s) (bytes-few 20 s [] between (omega arith))
-by_form Alone letter e s = alone-fine letter s e
-by_form Unknown letter e s = tt
+by_form (Some (Applet kind)) letter e s = by-applet kind letter e (applet_of s) (behind (skipped s))
+by_form (Some Bytes) letter e s = bytes-fine letter e (bytes_of 20 s) (bytes-few 20 s [] between (omega arith))
+by_form (Some Alone) letter e s = alone-fine letter s e
+by_form None letter e s = tt
 
 fine : (line : List ℕ) → Fine (meaning_of line)
 unfolding Fine meaning_of by_letter
@@ -153,6 +147,6 @@ fine line =
     (λ _. if-holds Fine (eqb (length (word (skipped line))) 1) (λ _. by_form (form_of (get_or (skipped line) 0 0)) (get_or (skipped line) 0 0) refl (behind (skipped line))) (λ _. tt))
 
 -- the floor program takes every record that a line means
-pub meant-is-taken : (line s : List ℕ) → meaning_of line ≡ a_record s → Taken s
+pub meant-is-taken : (line s : List ℕ) → meaning_of line ≡ Ok (Some s) → Taken s
 unfolding Fine
-meant-is-taken line s e = let f : Fine (a_record s) = rw e at (fine line) in f
+meant-is-taken line s e = let f : Fine (Ok (Some s)) = rw e at (fine line) in f

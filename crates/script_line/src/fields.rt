@@ -1,213 +1,149 @@
-// The arguments of a line, put into a record from place 3 on.
-// Each function is given a record that holds 0 from its next free place on, and leaves it so.
-ghost use Rattle.std.specs.Prelude.{◌≡◌, [], ◌∷◌, ◌++◌, ◌+◌, ◌≤◌, ◌<◌, length, drop};
+// The arguments of a line: bytes of two hexadecimal digits, texts in quotes, an event value, an applet's number.
+ghost use Rattle.std.specs.Prelude.{◌≡◌, ◌≢◌, ◌<◌, ◌≤◌, [], ◌∷◌, ◌++◌, length, Ok, Err, IfOk, IfErr, IfSome, IsOk, OnOk, ◌↔◌, MatchOption, MatchResult};
+ghost use Rattle.arrayvec.specs.ArrayVec.{array_vec_len};
 ghost use Rattle.script_line.specs.Words.{skipped, behind, ended?};
 ghost use Rattle.script_line.specs.Lines.{between, in_text, bytes_from, bytes_of, arguments_of, applet_of};
-ghost use Rattle.script_line.specs.Records.{Free, took, Counted, Gave, Read, NamedAt, WordAt, PlainAt, count_if_last};
+ghost use Rattle.script_line.specs.declared.Cause.TheVariants.{ManyBytes, ExtraWord};
+ghost use Rattle.script_line.specs.declared.Kind.TheVariants.{Install, Entry, Event};
 
-use crate::words::{byte, decimal, is_space, signed, word_end, word_start};
-use crate::{Applet, Cause, Count, Item, Kind, Number};
+use crate::Cause;
+use crate::words::{byte, decimal, next_word, signed, skip_spaces, split_word, word_len};
+use arrayvec::ArrayVec;
 
-// One argument byte more, behind the first n.
-fn put(out: &mut [u8], n: usize, b: u8)
-    requires { Free n out.old × (n < 20) }
-    ensures { Free (n + 1) out.new × (took (n + 1) out.new ≡ took n out.old ++ b ∷ []) }
+// One argument byte more, where there is room for it.
+fn put<const N: usize>(found: &mut ArrayVec<u8, N>, b: u8) -> Result<(), Cause>
+    ensures ok { OnOk result ((array_vec_len found.old ≢ N) × (found.new.items ≡ found.old.items ++ b ∷ [])) }
+    ensures err { IfErr result (λ c. (c ≡ ManyBytes) × (array_vec_len found.old ≡ N)) }
 {
-    out[3 + n] = b;
+    found.try_push(b).map_err(|_| Cause::ManyBytes)
 }
 
-// A space, a comment or nothing stands at a place.
-fn is_end(line: &[u8], at: usize) -> bool
-    requires { at ≤ length line.now }
-    ensures { result ≡ ended? (drop at line.now) }
+// A space, a comment or nothing stands at the front of a line.
+fn is_end(line: &[u8]) -> bool
+    ensures { result ≡ ended? line.now }
 {
-    if at == line.len() {
-        return true;
-    }
-    let b = line[at];
-    if b == b'#' {
-        return true;
-    }
-    is_space(b)
+    word_len(line) == 0
 }
 
-// The bytes of a text up to its closing quote.
-fn quoted(line: &[u8], from: usize, out: &mut [u8], n: usize, limit: usize) -> Item
-    requires { (from ≤ length line.now) × Free n out.old × (n ≤ limit) × (limit ≤ 20) }
-    ensures { Read (bytes_from limit (took n out.old) in_text (drop from line.now)) from limit line.now out.new result }
+// Puts the bytes of a text up to its closing quote, and gives what is left behind that.
+fn quoted<'a, const N: usize>(
+    line: &'a [u8],
+    found: &mut ArrayVec<u8, N>,
+) -> Result<&'a [u8], Cause>
+    ensures read { MatchResult result
+        (λ left. bytes_from N found.old.items in_text line.now ≡ bytes_from N found.new.items between left.now)
+        (λ c. bytes_from N found.old.items in_text line.now ≡ Err c) }
+    ensures shorter { IfOk result (λ left. length left.now < length line.now) }
 {
-    let mut count = n;
-    let mut at = from;
-    while at < line.len() {
-        let b = line[at];
-        if b == b'"' {
-            let next = at + 1;
-            if is_end(line, next) {
-                return Item::Next { count, next };
+    for (i, b) in line.iter().enumerate() {
+        if *b == b'"' {
+            let left = &line[i + 1..];
+            if is_end(left) {
+                return Ok(left);
             }
-            return Item::Bad(Cause::MissingSpace);
+            return Err(Cause::MissingSpace);
         }
-        if count == limit {
-            return Item::Bad(Cause::ManyBytes);
-        }
-        put(out, count, b);
-        count += 1;
-        at += 1;
+        put(found, *b)?;
     }
-    Item::Bad(Cause::OpenQuote)
+    Err(Cause::OpenQuote)
 }
 
-// A byte of two hexadecimal digits.
-fn plain(line: &[u8], at: usize, out: &mut [u8], n: usize, limit: usize) -> Item
-    requires { PlainAt at line.now × Free n out.old × (n ≤ limit) × (limit ≤ 20) }
-    ensures { Read (bytes_from limit (took n out.old) between (drop at line.now)) at limit line.now out.new result }
+// Puts the next item of a line, a quoted text or a byte, and gives what is left behind it; nothing where no item is left.
+fn item<'a, const N: usize>(
+    line: &'a [u8],
+    found: &mut ArrayVec<u8, N>,
+) -> Result<Option<&'a [u8]>, Cause>
+    ensures read { MatchResult result
+        (λ next. MatchOption next
+        (bytes_from N found.old.items between line.now ≡ Ok found.new.items)
+        (λ left. bytes_from N found.old.items between line.now ≡ bytes_from N found.new.items between left.now))
+        (λ c. bytes_from N found.old.items between line.now ≡ Err c) }
+    ensures shorter { IfOk result (λ next. IfSome next (λ left. length left.now < length line.now)) }
 {
-    let end = word_end(line, at);
-    let found = byte(&line[at..end]);
-    match found {
-        Number::Value(v) => {
-            if n == limit {
-                return Item::Bad(Cause::ManyBytes);
-            }
-            put(out, n, (v % 256) as u8);
-            Item::Next {
-                count: n + 1,
-                next: end,
-            }
-        }
-        Number::Bad(c) => Item::Bad(c),
-    }
-}
-
-// One item of a line: a quoted text or a byte.
-fn item(line: &[u8], at: usize, out: &mut [u8], n: usize, limit: usize) -> Item
-    requires { WordAt at line.now × Free n out.old × (n ≤ limit) × (limit ≤ 20) }
-    ensures { Read (bytes_from limit (took n out.old) between (drop at line.now)) at limit line.now out.new result }
-{
-    if line[at] == b'"' {
-        return quoted(line, at + 1, out, n, limit);
-    }
-    plain(line, at, out, n, limit)
-}
-
-// All items that are left of a line, at most `limit` bytes.
-pub fn bytes(line: &[u8], from: usize, out: &mut [u8], limit: usize) -> Count
-    requires { (from ≤ length line.now) × Free 0 out.old × (limit ≤ 20) }
-    ensures { Gave (bytes_of limit (drop from line.now)) result out.new × Counted result (λ n. n ≤ limit) }
-{
-    let mut count = 0;
-    let mut at = word_start(line, from);
-    while at < line.len() {
-        let found = item(line, at, out, count, limit);
-        match found {
-            Item::Next { count: more, next } => {
-                count = more;
-                at = word_start(line, next);
-            }
-            Item::Bad(c) => return Count::Bad(c),
+    match skip_spaces(line) {
+        [] => Ok(None),
+        [b'"', text @ ..] => Ok(Some(quoted(text, found)?)),
+        start => {
+            let (word, left) = split_word(start);
+            put(found, byte(word)?)?;
+            Ok(Some(left))
         }
     }
-    Count::Of(count)
 }
 
-// So many argument bytes, where nothing is left of a line.
-pub fn if_last(n: usize, line: &[u8], from: usize) -> Count
-    requires { from ≤ length line.now }
-    ensures { result ≡ count_if_last n (drop from line.now) }
+// All items of a line, at most N bytes.
+pub(crate) fn bytes<const N: usize>(line: &[u8]) -> Result<ArrayVec<u8, N>, Cause>
+    ensures { MatchResult result
+        (λ found. bytes_of N line.now ≡ Ok found.items)
+        (λ c. bytes_of N line.now ≡ Err c) }
 {
-    if word_start(line, from) == line.len() {
-        return Count::Of(n);
+    let mut found = ArrayVec::new();
+    let mut left = line;
+    // each turn goes on by an item's length
+    while let Some(behind) = item(left, &mut found)? {
+        left = behind;
     }
-    Count::Bad(Cause::ExtraWord)
+    Ok(found)
+}
+
+// Refuses a line on which more than a comment is left.
+pub(crate) fn nothing_left(line: &[u8]) -> Result<(), Cause>
+    ensures variant { IsOk result ↔ (skipped line.now ≡ []) }
+    ensures cause { IfErr result (λ c. c ≡ ExtraWord) }
+{
+    match skip_spaces(line) {
+        [] => Ok(()),
+        _ => Err(Cause::ExtraWord),
+    }
 }
 
 // The twelve bytes of an install; those that are not written are 0.
-fn install(line: &[u8], from: usize, out: &mut [u8]) -> Count
-    requires { (from ≤ length line.now) × Free 0 out.old }
-    ensures { Gave (arguments_of Kind.Install (drop from line.now)) result out.new }
+pub(crate) fn install(line: &[u8]) -> Result<[u8; 12], Cause>
+    ensures { result ≡ arguments_of Install line.now }
 {
-    let count = bytes(line, from, out, 12);
-    match count {
-        Count::Of(_written) => Count::Of(12),
-        Count::Bad(c) => Count::Bad(c),
-    }
+    let given = bytes::<12>(line)?;
+    let mut all = [0; 12];
+    all[..given.len()].copy_from_slice(&given);
+    Ok(all)
 }
 
 // The help byte of an entry, 0 or 1, and its text.
-fn entry(line: &[u8], from: usize, out: &mut [u8]) -> Count
-    requires { (from ≤ length line.now) × Free 0 out.old }
-    ensures { Gave (arguments_of Kind.Entry (drop from line.now)) result out.new }
+pub(crate) fn entry(line: &[u8]) -> Result<ArrayVec<u8, 20>, Cause>
+    ensures { MatchResult result
+        (λ found. arguments_of Entry line.now ≡ Ok found.items)
+        (λ c. arguments_of Entry line.now ≡ Err c) }
 {
-    let count = bytes(line, from, out, 20);
-    match count {
-        Count::Of(n) => {
-            if n == 0 {
-                return Count::Bad(Cause::MissingHelp);
-            }
-            if 1 < out[3] {
-                return Count::Bad(Cause::BadHelp);
-            }
-            Count::Of(n)
-        }
-        Count::Bad(c) => Count::Bad(c),
+    let found = bytes(line)?;
+    match found.as_slice() {
+        [] => Err(Cause::MissingHelp),
+        [help, ..] if 1 < *help => Err(Cause::BadHelp),
+        _ => Ok(found),
     }
 }
 
 // The two bytes of an event value, high first.
-fn event(line: &[u8], from: usize, out: &mut [u8]) -> Count
-    requires { (from ≤ length line.now) × Free 0 out.old }
-    ensures { Gave (arguments_of Kind.Event (drop from line.now)) result out.new }
+pub(crate) fn event(line: &[u8]) -> Result<[u8; 2], Cause>
+    ensures { result ≡ arguments_of Event line.now }
 {
-    let at = word_start(line, from);
-    if at == line.len() {
-        return Count::Bad(Cause::MissingNumber);
-    }
-    let end = word_end(line, at);
-    let value = signed(&line[at..end]);
-    match value {
-        Number::Value(v) => {
-            put(out, 0, (v / 256 % 256) as u8);
-            put(out, 1, (v % 256) as u8);
-            if_last(2, line, end)
-        }
-        Number::Bad(c) => Count::Bad(c),
-    }
+    let Some((word, left)) = next_word(line) else {
+        return Err(Cause::MissingNumber);
+    };
+    let value = signed(word)?;
+    nothing_left(left)?;
+    Ok(value.to_be_bytes())
 }
 
-// The arguments that follow an applet's number.
-pub fn arguments(kind: Kind, line: &[u8], from: usize, out: &mut [u8]) -> Count
-    requires { (from ≤ length line.now) × Free 0 out.old }
-    ensures { Gave (arguments_of kind (drop from line.now)) result out.new }
+// The applet's number that follows a letter, and what is left behind it.
+pub(crate) fn applet(line: &[u8]) -> Result<(u8, &[u8]), Cause>
+    ensures { MatchResult result
+        (λ named. (applet_of line.now ≡ Ok named.0) × (named.1.now ≡ behind (skipped line.now)))
+        (λ c. applet_of line.now ≡ Err c) }
 {
-    match kind {
-        Kind::Install => install(line, from, out),
-        Kind::Entry => entry(line, from, out),
-        Kind::Event => event(line, from, out),
-        Kind::Nothing => if_last(0, line, from),
-    }
-}
-
-// The applet's number that follows a letter.
-pub fn applet(line: &[u8], from: usize) -> Applet
-    requires { from ≤ length line.now }
-    ensures { NamedAt (applet_of (drop from line.now)) (behind (skipped (drop from line.now))) line.now result }
-{
-    let at = word_start(line, from);
-    if at == line.len() {
-        return Applet::Bad(Cause::MissingApplet);
-    }
-    let end = word_end(line, at);
-    let value = decimal(&line[at..end]);
-    match value {
-        Number::Value(v) => {
-            if 255 < v {
-                return Applet::Bad(Cause::LargeNumber);
-            }
-            Applet::Named {
-                applet: v as u8,
-                next: end,
-            }
-        }
-        Number::Bad(c) => Applet::Bad(c),
+    let Some((word, left)) = next_word(line) else {
+        return Err(Cause::MissingApplet);
+    };
+    match u8::try_from(decimal(word)?) {
+        Ok(number) => Ok((number, left)),
+        Err(_) => Err(Cause::LargeNumber),
     }
 }

@@ -4,12 +4,13 @@
 
 mod fields;
 mod line;
+mod messages;
 mod words;
 
 pub use line::record;
 
 // Why a line is no record.
-#[derive(Drop)]
+#[derive(Clone, Copy, PartialEq, Eq)]
 pub enum Cause {
     UnknownLetter,
     MissingApplet,
@@ -26,16 +27,8 @@ pub enum Cause {
     LongLine,
 }
 
-// What a line gives.
-#[derive(Drop)]
-pub enum Outcome {
-    Record,
-    Blank,
-    Bad(Cause),
-}
-
 // What follows a letter and its applet.
-#[derive(Drop)]
+#[derive(Clone, Copy, PartialEq, Eq)]
 pub enum Kind {
     Install,
     Entry,
@@ -44,38 +37,9 @@ pub enum Kind {
 }
 
 // What follows a letter: an applet and more, bytes alone, or nothing.
-#[derive(Drop)]
+#[derive(Clone, Copy, PartialEq, Eq)]
 pub enum Form {
     Applet(Kind),
     Bytes,
     Alone,
-    Unknown,
-}
-
-// A number, and why there is none.
-#[derive(Drop)]
-pub enum Number {
-    Value(u32),
-    Bad(Cause),
-}
-
-// How many argument bytes stand in a record, or why there are none.
-#[derive(Drop)]
-pub enum Count {
-    Of(usize),
-    Bad(Cause),
-}
-
-// How many argument bytes stand in a record once one more item of the line was read, and where the item ends.
-#[derive(Drop)]
-pub enum Item {
-    Next { count: usize, next: usize },
-    Bad(Cause),
-}
-
-// An applet's number and where it ends.
-#[derive(Drop)]
-pub enum Applet {
-    Named { applet: u8, next: usize },
-    Bad(Cause),
 }

@@ -1,117 +1,76 @@
 // A line as a record of the floor program.
 // What a line means stands in specs/Lines.antt.
-ghost use Rattle.std.specs.Prelude.{◌≡◌, ◌≤◌, length, drop};
+ghost use Rattle.std.specs.Prelude.{◌≡◌, ◌≤◌, length};
 ghost use Rattle.script_line.specs.Words.{skipped, behind};
 ghost use Rattle.script_line.specs.Lines.{form_of, record_of, applet_of, named_by, meaning_of};
-ghost use Rattle.script_line.specs.Records.{Free, took, Counted, Finished, heard};
 
-use crate::fields::{applet, arguments, bytes, if_last};
-use crate::words::{word_end, word_start};
-use crate::{Applet, Cause, Count, Form, Kind, Outcome};
+use crate::fields::{applet, bytes, entry, event, install, nothing_left};
+use crate::words::next_word;
+use crate::{Cause, Form, Kind};
 
-// What follows a letter.
-fn form(letter: u8) -> Form
+// What follows a letter, if it is one.
+#[tactic(auto, unfolding(crate::specs::Lines::form_of))]
+fn form(letter: u8) -> Option<Form>
     ensures { result ≡ form_of letter }
 {
     match letter {
-        b'I' => Form::Applet(Kind::Install),
-        b'M' => Form::Applet(Kind::Entry),
-        b'E' => Form::Applet(Kind::Event),
-        b'C' => Form::Applet(Kind::Event),
-        b'T' => Form::Applet(Kind::Nothing),
-        b'D' => Form::Applet(Kind::Nothing),
-        b'L' => Form::Applet(Kind::Nothing),
-        b'U' => Form::Applet(Kind::Nothing),
-        b'P' => Form::Bytes,
-        b'S' => Form::Bytes,
-        b'O' => Form::Alone,
-        b'N' => Form::Alone,
-        b'W' => Form::Alone,
-        b'R' => Form::Alone,
-        _ => Form::Unknown,
+        b'I' => Some(Form::Applet(Kind::Install)),
+        b'M' => Some(Form::Applet(Kind::Entry)),
+        b'E' | b'C' => Some(Form::Applet(Kind::Event)),
+        b'T' | b'D' | b'L' | b'U' => Some(Form::Applet(Kind::Nothing)),
+        b'P' | b'S' => Some(Form::Bytes),
+        b'O' | b'N' | b'W' | b'R' => Some(Form::Alone),
+        _ => None,
     }
 }
 
-// A record with nothing in it.
-fn clear(out: &mut [u8])
-    requires { length out.old ≡ 24 }
-    ensures { Free 0 out.new }
+// The record of a letter, an applet and argument bytes.
+fn sealed(letter: u8, applet: u8, arguments: &[u8]) -> [u8; 24]
+    requires { length arguments.now ≤ 20 }
+    ensures { result ≡ record_of letter applet arguments.now }
 {
-    let mut i = 0;
-    while i < out.len() {
-        out[i] = 0;
-        i += 1;
-    }
+    let mut record = [0; 24];
+    record[0] = letter;
+    record[1] = applet;
+    record[2] = arguments.len() as u8;
+    record[3..3 + arguments.len()].copy_from_slice(arguments);
+    record
 }
 
-// The letter, the applet and the count of a record whose arguments stand.
-fn seal(n: usize, letter: u8, applet: u8, out: &mut [u8])
-    requires { Free n out.old }
-    ensures { out.new ≡ record_of letter applet (took n out.old) }
+// The record of a line whose letter takes an applet.
+fn named(kind: Kind, letter: u8, line: &[u8]) -> Result<Option<[u8; 24]>, Cause>
+    ensures { result ≡ named_by kind letter (applet_of line.now) (behind (skipped line.now)) }
 {
-    out[0] = letter;
-    out[1] = applet;
-    out[2] = n as u8;
-}
-
-// The record that the arguments, where they are good, make.
-fn finish(count: Count, letter: u8, applet: u8, out: &mut [u8]) -> Outcome
-    requires { Counted count (λ n. Free n out.old) }
-    ensures { Finished count letter applet out.old out.new result }
-{
-    match count {
-        Count::Of(n) => {
-            seal(n, letter, applet, out);
-            Outcome::Record
+    let (number, left) = applet(line)?;
+    let record = match kind {
+        Kind::Install => sealed(letter, number, &install(left)?),
+        Kind::Entry => sealed(letter, number, &entry(left)?),
+        Kind::Event => sealed(letter, number, &event(left)?),
+        Kind::Nothing => {
+            nothing_left(left)?;
+            sealed(letter, number, &[])
         }
-        Count::Bad(c) => Outcome::Bad(c),
-    }
+    };
+    Ok(Some(record))
 }
 
-// A line whose letter takes an applet.
-fn named(kind: Kind, letter: u8, line: &[u8], from: usize, out: &mut [u8]) -> Outcome
-    requires { (from ≤ length line.now) × Free 0 out.old }
-    ensures { heard result out.new ≡ named_by kind letter (applet_of (drop from line.now)) (behind (skipped (drop from line.now))) }
+// The record of a line, or none where the line has no word.
+pub fn record(line: &[u8]) -> Result<Option<[u8; 24]>, Cause>
+    ensures { result ≡ meaning_of line.now }
 {
-    let found = applet(line, from);
-    match found {
-        Applet::Named {
-            applet: number,
-            next,
-        } => {
-            let count = arguments(kind, line, next, out);
-            finish(count, letter, number, out)
+    let Some((word, left)) = next_word(line) else {
+        return Ok(None);
+    };
+    let &[letter] = word else {
+        return Err(Cause::UnknownLetter);
+    };
+    match form(letter) {
+        Some(Form::Applet(kind)) => named(kind, letter, left),
+        Some(Form::Bytes) => Ok(Some(sealed(letter, 0, &bytes::<20>(left)?))),
+        Some(Form::Alone) => {
+            nothing_left(left)?;
+            Ok(Some(sealed(letter, 0, &[])))
         }
-        Applet::Bad(c) => Outcome::Bad(c),
-    }
-}
-
-// The record that a line gives, into 24 bytes.
-pub fn record(line: &[u8], out: &mut [u8]) -> Outcome
-    requires { length out.old ≡ 24 }
-    ensures { heard result out.new ≡ meaning_of line.now }
-{
-    let from = word_start(line, 0);
-    if from == line.len() {
-        return Outcome::Blank;
-    }
-    let to = word_end(line, from);
-    if to - from != 1 {
-        return Outcome::Bad(Cause::UnknownLetter);
-    }
-    let letter = line[from];
-    clear(out);
-    let found = form(letter);
-    match found {
-        Form::Applet(kind) => named(kind, letter, line, to, out),
-        Form::Bytes => {
-            let count = bytes(line, to, out, 20);
-            finish(count, letter, 0, out)
-        }
-        Form::Alone => {
-            let count = if_last(0, line, to);
-            finish(count, letter, 0, out)
-        }
-        Form::Unknown => Outcome::Bad(Cause::UnknownLetter),
+        None => Err(Cause::UnknownLetter),
     }
 }

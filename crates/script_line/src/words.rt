@@ -1,171 +1,148 @@
 // The words of a line, and the numbers that they stand for.
 // A word ends at a space, at a tab, or at a '#', which starts a comment.
-ghost use Rattle.std.specs.Prelude.{◌≡◌, ◌+◌, ◌≤◌, length, drop};
-ghost use Rattle.lists.specs.Lists.{leading};
-ghost use Rattle.script_line.specs.Words.{space?, in_word?, nibble_of, byte_of, decimal_of, minus, plus, signed_of};
-ghost use Rattle.script_line.specs.Records.{Starts};
+ghost use Rattle.std.specs.Prelude.{◌≡◌, ◌<◌, ◌≤◌, [], length, IfSome, MatchOption};
+ghost use Rattle.std.specs.List.{prefix_len};
+ghost use Rattle.script_line.specs.Words.{space?, in_word?, skipped, word, behind, nibble_of, byte_of, decimal_of, minus, plus, signed_of};
 
-use crate::{Cause, Number};
+use crate::Cause;
 
 // Whether a byte stands between words.
-pub fn is_space(b: u8) -> bool
+fn is_space(b: u8) -> bool
     ensures { result ≡ space? b }
 {
-    if b == b' ' {
-        return true;
-    }
-    b == b'\t'
+    b == b' ' || b == b'\t'
 }
 
-// Where the next word starts, or the line's length where only a comment or nothing is left.
-pub fn word_start(line: &[u8], from: usize) -> usize
-    requires { from ≤ length line.now }
-    ensures { Starts from result line.now }
+// Whether a byte is one of a word.
+fn in_word(b: u8) -> bool
+    ensures { result ≡ in_word? b }
 {
-    let mut at = from;
-    while at < line.len() {
-        let b = line[at];
-        if b == b'#' {
-            return line.len();
-        }
-        if !is_space(b) {
-            return at;
-        }
-        at += 1;
-    }
-    at
+    b != b'#' && !is_space(b)
 }
 
-// Where the word that starts here ends.
-pub fn word_end(line: &[u8], from: usize) -> usize
-    requires { from ≤ length line.now }
-    ensures { (result ≡ from + leading in_word? (drop from line.now)) × (result ≤ length line.now) }
+// How many bytes at the front of a line stand between words.
+fn spaces(line: &[u8]) -> usize
+    ensures count { result ≡ prefix_len space? line.now }
+    ensures within { result ≤ length line.now }
 {
-    let mut at = from;
-    while at < line.len() {
-        let b = line[at];
-        if b == b'#' {
-            return at;
-        }
-        if is_space(b) {
-            return at;
-        }
-        at += 1;
-    }
-    at
+    line.iter().take_while(|b| is_space(**b)).count()
 }
 
-// The value of a hexadecimal digit of either case, or 16.
-pub fn nibble(b: u8) -> u8
-    ensures { result ≡ nibble_of b }
+// How many bytes the word has that a line starts with.
+pub(crate) fn word_len(line: &[u8]) -> usize
+    ensures count { result ≡ prefix_len in_word? line.now }
+    ensures within { result ≤ length line.now }
 {
-    if b < b'0' {
-        return 16;
+    line.iter().take_while(|b| in_word(**b)).count()
+}
+
+// What is left of a line behind its spaces: nothing where a comment starts.
+pub(crate) fn skip_spaces(line: &[u8]) -> &[u8]
+    ensures { result.now ≡ skipped line.now }
+{
+    match &line[spaces(line)..] {
+        [b'#', ..] => &[],
+        left => left,
     }
-    if b <= b'9' {
-        return b - b'0';
+}
+
+// The word that a line starts with, and what is left behind it.
+#[tactic(auto, unfolding(crate::specs::Words::word, crate::specs::Words::behind))]
+pub(crate) fn split_word(line: &[u8]) -> (&[u8], &[u8])
+    ensures front { result.0.now ≡ word line.now }
+    ensures back { result.1.now ≡ behind line.now }
+{
+    line.split_at(word_len(line))
+}
+
+// The next word of a line, and what is left behind it, if there is one.
+pub(crate) fn next_word(line: &[u8]) -> Option<(&[u8], &[u8])>
+    ensures { MatchOption result
+        (skipped line.now ≡ [])
+        (λ next. (0 < length (skipped line.now)) × (next.0.now ≡ word (skipped line.now)) × (next.1.now ≡ behind (skipped line.now))) }
+{
+    match skip_spaces(line) {
+        [] => None,
+        start => Some(split_word(start)),
     }
-    if b < b'A' {
-        return 16;
+}
+
+// The value of a hexadecimal digit of either case.
+#[tactic(auto, unfolding(crate::specs::Words::nibble_of))]
+fn nibble(b: u8) -> Option<u8>
+    ensures value { result ≡ nibble_of b }
+    ensures small { IfSome result (λ n. n < 16) }
+{
+    match b {
+        b'0'..=b'9' => Some(b - b'0'),
+        b'A'..=b'F' => Some(b - b'A' + 10),
+        b'a'..=b'f' => Some(b - b'a' + 10),
+        _ => None,
     }
-    if b <= b'F' {
-        return b - b'A' + 10;
-    }
-    if b < b'a' {
-        return 16;
-    }
-    if b <= b'f' {
-        return b - b'a' + 10;
-    }
-    16
 }
 
 // The byte that two hexadecimal digits give.
-pub fn byte(word: &[u8]) -> Number
+#[tactic(auto, unfolding(crate::specs::Words::byte_of, crate::specs::Words::joined))]
+pub(crate) fn byte(word: &[u8]) -> Result<u8, Cause>
     ensures { result ≡ byte_of word.now }
 {
-    if word.len() != 2 {
-        return Number::Bad(Cause::BadByte);
-    }
-    let high = nibble(word[0]);
-    if 16 <= high {
-        return Number::Bad(Cause::BadByte);
-    }
-    let low = nibble(word[1]);
-    if 16 <= low {
-        return Number::Bad(Cause::BadByte);
-    }
-    Number::Value(high as u32 * 16 + low as u32)
+    let [high, low] = word else {
+        return Err(Cause::BadByte);
+    };
+    let high = nibble(*high).ok_or(Cause::BadByte)?;
+    let low = nibble(*low).ok_or(Cause::BadByte)?;
+    Ok(high * 16 + low)
 }
 
 // The number that decimal digits give, up to 65535.
-pub fn decimal(word: &[u8]) -> Number
+pub(crate) fn decimal(word: &[u8]) -> Result<u32, Cause>
     ensures { result ≡ decimal_of word.now }
 {
-    if word.len() == 0 {
-        return Number::Bad(Cause::BadNumber);
+    if word.is_empty() {
+        return Err(Cause::BadNumber);
     }
     let mut value = 0;
-    let mut i = 0;
-    while i < word.len() {
-        let b = word[i];
-        if b < b'0' {
-            return Number::Bad(Cause::BadNumber);
+    for b in word {
+        if !b.is_ascii_digit() {
+            return Err(Cause::BadNumber);
         }
-        if b'9' < b {
-            return Number::Bad(Cause::BadNumber);
-        }
-        value = value * 10 + (b - b'0') as u32;
+        value = value * 10 + u32::from(*b - b'0');
         if 65535 < value {
-            return Number::Bad(Cause::LargeNumber);
+            return Err(Cause::LargeNumber);
         }
-        i += 1;
     }
-    Number::Value(value)
+    Ok(value)
 }
 
 // The 16 bits of a number that a minus stands before.
-pub fn negative(n: Number) -> Number
-    ensures { result ≡ minus n }
+#[tactic(auto, unfolding(crate::specs::Words::minus))]
+fn negative(n: u32) -> Result<u16, Cause>
+    ensures { result ≡ minus (Ok n) }
 {
-    match n {
-        Number::Value(v) => {
-            if 32768 < v {
-                return Number::Bad(Cause::LargeNumber);
-            }
-            if v == 0 {
-                return Number::Value(0);
-            }
-            Number::Value(65536 - v)
-        }
-        Number::Bad(c) => Number::Bad(c),
+    if 32768 < n {
+        return Err(Cause::LargeNumber);
     }
+    Ok((n as u16).wrapping_neg())
 }
 
 // The 16 bits of a number that no minus stands before.
-pub fn positive(n: Number) -> Number
-    ensures { result ≡ plus n }
+#[tactic(auto, unfolding(crate::specs::Words::plus))]
+fn positive(n: u32) -> Result<u16, Cause>
+    ensures { result ≡ plus (Ok n) }
 {
-    match n {
-        Number::Value(v) => {
-            if 32767 < v {
-                return Number::Bad(Cause::LargeNumber);
-            }
-            Number::Value(v)
-        }
-        Number::Bad(c) => Number::Bad(c),
+    if 32767 < n {
+        return Err(Cause::LargeNumber);
     }
+    Ok(n as u16)
 }
 
 // The 16 bits of a signed decimal number from -32768 to 32767.
-pub fn signed(word: &[u8]) -> Number
+#[tactic(auto, unfolding(crate::specs::Words::signed_of))]
+pub(crate) fn signed(word: &[u8]) -> Result<u16, Cause>
     ensures { result ≡ signed_of word.now }
 {
-    if word.len() == 0 {
-        return Number::Bad(Cause::BadNumber);
+    match word {
+        [b'-', digits @ ..] => negative(decimal(digits)?),
+        _ => positive(decimal(word)?),
     }
-    if word[0] == b'-' {
-        return negative(decimal(&word[1..]));
-    }
-    positive(decimal(word))
 }

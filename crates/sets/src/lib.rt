@@ -6,30 +6,25 @@ ghost use Rattle.std.specs.Prelude.{◌≡◌};
 ghost use Rattle.sets.specs.Sets.{is_number, has?, single, set_both, meets, set_without, switched_set};
 
 // Whether a number is one of 1 to 8.
-fn is_number(n: u8) -> bool
+#[tactic(auto, unfolding(crate::specs::Sets::is_number))]
+pub fn is_number(n: u8) -> bool
     ensures { result ≡ is_number n }
 {
-    if 1 <= n { n <= 8 } else { false }
+    matches!(n, 1..=8)
 }
 
 // The set of one number; none for a number outside 1 to 8.
 pub fn bit(n: u8) -> u8
     ensures { result ≡ single n }
 {
-    if is_number(n) {
-        return 1u8 << (n - 1);
-    }
-    0
+    if is_number(n) { 1 << (n - 1) } else { 0 }
 }
 
 // Whether a number is in the set.
 pub fn has(set: u8, n: u8) -> bool
     ensures { result ≡ has? set n }
 {
-    if is_number(n) {
-        return (set >> (n - 1)) & 1 == 1;
-    }
-    false
+    is_number(n) && (set >> (n - 1)) & 1 == 1
 }
 
 // Those of the first that are in the second.
@@ -58,8 +53,5 @@ pub fn switched(set: u8, n: u8, on: bool) -> u8
     ensures { result ≡ switched_set set n on }
 {
     let own = bit(n);
-    if on {
-        return set | own;
-    }
-    set & !own
+    if on { set | own } else { set & !own }
 }

@@ -11,12 +11,18 @@ use borrow.Author.Tests.{leb-true, leb-false, ne_eqb, eq-eqb}
 use lib.Dec.{leb, eqb}
 use lib.ListN.{length, get_or, drop, length-drop}
 use lib.Seq.{drop-cons}
+use mir.Val.{bool_byte}
 use lib.Pow.{pow_pos}
 use lib.Count.{ones, ones_step, count_trailing_zeros, under}
 use Rattle.std.specs.Prelude.{if◌then◌else◌, ◌==◌}
 use Rattle.lists.specs.Lists.{count, leading}
 use Rattle.lists.proofs.Bits.{trailing-more}
 use Rattle.timers.specs.Sets.{bit, is_between, set_of}
+
+-- a test as a number
+pub test-bit : (b : Bool) → bool_byte b ≡ bit b
+test-bit true = refl
+test-bit false = refl
 
 bit-lt : (b : Bool) → bit b < 2
 bit-lt true = omega arith

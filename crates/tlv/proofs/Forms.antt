@@ -10,29 +10,26 @@ use lib.Seq.{take-append_seam}
 use borrow.Author.Tests.{le-leb, le-ltb, lt-leb, eq-eqb, ne_eqb}
 use borrow.Author.Rules.{rules}
 use Rattle.lists.specs.Tests.{◌<?◌, ◌≤?◌}
-use Rattle.std.specs.Prelude.{if◌then◌else◌, ◌==◌}
+use Rattle.std.specs.Prelude.{if◌then◌else◌, ◌==◌, Option, Some, None, Result, Ok}
 use Rattle.lists.specs.Lists.{Every, keep, gather, in?, some?}
 use Rattle.lists.proofs.Picks.{picks}
 use Rattle.lists.proofs.Among.{in-others, in-none}
 use Rattle.lists.proofs.Mapped.{map-keep, map-drop}
 use Rattle.lists.proofs.Parts.{get_or-here, length-here, first-here, rest-here}
-use Rattle.rules.specs.declared.Len.TheVariants.{Known}
+use Rattle.rules.specs.declared.Malformed.{Malformed}
 use Rattle.rules.specs.declared.Element.{Element}
-use Rattle.rules.specs.declared.Element.TheVariants.{Whole}
-use Rattle.rules.specs.declared.Found.{Found}
-use Rattle.rules.specs.declared.Found.TheVariants.{At, Nothing}
-use Rattle.rules.specs.declared.Outer.TheVariants.{Tlv}
-use Rattle.rules.specs.Bytes.{byte, tag_size, tag_number, long_length, length_at, valued, element_by, element_at, Tagged, Run, run_on, run_at, is_run, first_value, occurring, found, part_of, rest, outer_by, outer_of}
+use Rattle.rules.specs.declared.Span.{Span}
+use Rattle.rules.specs.Bytes.{byte, element, tag_size, tag_number, long_length, length_at, valued, element_by, element_at, Tagged, Run, run_on, run_at, is_run, first_value, occurring, found, part_of, rest, outer_by, outer_of}
 use Rattle.rules.specs.Commands.{length_bytes}
 use Rattle.tlv.specs.Written.{Object, Written, Has, Writable, flag, tag_bytes, element_bytes, run_bytes, outer_bytes, objects, value_of, value_at}
 use Rattle.tlv.proofs.Runs.{run_step}
 
 -- A TAG, in either form
 record TagHere (s : List ℕ) (at size number : ℕ) : Type 0 where
-  sized : tag_size (byte s at) ≡ size
+  sized : tag_size (byte s at) ≡ Ok size
   numbered : tag_number s at ≡ number
 
-one_byte : (t : ℕ) → (t ≡ 0x00 → ⊥) → (t ≡ 0x80 → ⊥) → (t ≡ 0xFF → ⊥) → (t ≡ 0x7F → ⊥) → 1 ≡ tag_size t
+one_byte : (t : ℕ) → (t ≡ 0x00 → ⊥) → (t ≡ 0x80 → ⊥) → (t ≡ 0xFF → ⊥) → (t ≡ 0x7F → ⊥) → Ok 1 ≡ tag_size t
 unfolding tag_size
 one_byte t a b c d = search (picks, in-others, in-none, rules) depth 8
 
@@ -56,7 +53,7 @@ tag-here s at false f n r h here =
     no-long true i j q = omega arith
     no-long false i j q = omega arith
 
-    size : (f : Bool) → 1 ≤ n → n ≤ 0x7E → 1 ≡ tag_size (flag f + n)
+    size : (f : Bool) → 1 ≤ n → n ≤ 0x7E → Ok 1 ≡ tag_size (flag f + n)
     size true i j = one_byte (0x80 + n) (λ q. omega arith) (λ q. omega arith) (λ q. omega arith) (λ q. omega arith)
     size false i j = one_byte (0x00 + n) (λ q. omega arith) (λ q. omega arith) (λ q. omega arith) (λ q. omega arith)
 
@@ -70,11 +67,11 @@ tag-some true f n = omega arith
 tag-some false f n = omega arith
 
 -- A LENGTH
-length-bytes : (s : List ℕ) (at n : ℕ) (r : List ℕ) → n ≤ 0xFF → drop at s ≡ length_bytes n ++ r → length_at s at ≡ Known n (at + length (length_bytes n))
+length-bytes : (s : List ℕ) (at n : ℕ) (r : List ℕ) → n ≤ 0xFF → drop at s ≡ length_bytes n ++ r → length_at s at ≡ Ok (record { len = n; next = at + length (length_bytes n) })
 unfolding length_bytes length_at long_length
 length-bytes s at n r h = go (n <? 0x80) refl
   where
-    go : (b : Bool) → (n <? 0x80) ≡ b → drop at s ≡ (if b then n ∷ [] else 0x81 ∷ n ∷ []) ++ r → length_at s at ≡ Known n (at + length (if b then n ∷ [] else 0x81 ∷ n ∷ []))
+    go : (b : Bool) → (n <? 0x80) ≡ b → drop at s ≡ (if b then n ∷ [] else 0x81 ∷ n ∷ []) ++ r → length_at s at ≡ Ok (record { len = n; next = at + length (if b then n ∷ [] else 0x81 ∷ n ∷ []) })
     go true e here =
         let l : (length s ≤? at) ≡ false = lt-leb (length s) at (omega (arith, length-drop at s, ap length here)) in
         rw (l, first-here s at 0 here, e) refl
@@ -85,7 +82,7 @@ length-bytes s at n r h = go (n <? 0x80) refl
 
 -- AN ELEMENT, and what follows it
 record ElementHere (s : List ℕ) (at : ℕ) (e : Written) (r : List ℕ) (start : ℕ) : Type 0 where
-  whole : element_at s at ≡ Whole e.object.number start (length e.object.value) (start + length e.object.value)
+  whole : element_at s at ≡ Ok (Some (element e.object.number (record { len = length e.object.value; next = start })))
   part : take (length e.object.value) (drop start s) ≡ e.object.value
   behind : drop (start + length e.object.value) s ≡ r
   within : start + length e.object.value ≤ length s
@@ -104,11 +101,10 @@ element-here s at e r w h here =
     let some = tag-some e.in_three e.flagged e.object.number in
     let long = length-here s at a h ∙ ap (λ n. at + n) (length-append t (m ++ (v ++ r)) ∙ ap (λ n. length t + n) (length-append m (v ++ r) ∙ ap (λ n. length m + n) (length-append v r))) in
     let p : (length s ≤? at) ≡ false = lt-leb (length s) at (omega arith) in
-    let q : (tag_size (byte s at) == 0) ≡ false = ne_eqb (tag_size (byte s at)) 0 (λ z. absurd (omega (arith, g.sized))) in
-    let i : length_at s (at + tag_size (byte s at)) ≡ Known (length v) (at + length t + length m) = ap (λ n. length_at s (at + n)) g.sized ∙ length-bytes s (at + length t) (length v) (v ++ r) w.short b in
+    let i : length_at s (at + length t) ≡ Ok (record { len = length v; next = at + length t + length m }) = length-bytes s (at + length t) (length v) (v ++ r) w.short b in
     let j : (at + length t + length m + length v ≤? length s) ≡ true = le-leb (at + length t + length m + length v) (length s) (omega arith) in
     record {
-      whole = rw (p, q, g.numbered, i, j) refl;
+      whole = rw (p, g.sized, g.numbered, i, j) refl;
       part = ap (take (length v)) c ∙ take-append_seam v r;
       behind = rest-here s (at + length t + length m) v r c;
       within = omega arith;
@@ -116,7 +112,7 @@ element-here s at e r w h here =
 
 -- A RUN: the objects read are those written
 abbrev object_in : List ℕ → Tagged → Object
-object_in s e = record { number = e.number; value = part_of s (At e.value) }
+object_in s e = record { number = e.number; value = part_of s (Some e.value) }
 
 record ReadAs (s : List ℕ) (run : Run) (l : List Written) : Type 0 where
   same : map (object_in s) run.elements ≡ objects l
@@ -131,7 +127,7 @@ run-here [] s at w h here =
 run-here (e ∷ l) s at w h here =
     let i = element-here s at e (gather element_bytes l) w.0 h here in
     let more = run-here l s _ w.1 i.within i.behind in
-    let k = run_step s at ∙ ap (λ (x : Element). run_on x (run_at s)) i.whole in
+    let k = run_step s at ∙ ap (λ (x : Result (Option Element) Malformed). run_on x (run_at s)) i.whole in
     record {
       same = ap (λ (r : Run). map (object_in s) r.elements) k ∙ rw (i.part, more.same) refl;
       full = ap (λ (r : Run). r.fills) k ∙ more.full;
@@ -174,12 +170,12 @@ pub either-form-is-the-same-object : (l k : List Written) → Every Writable l �
 unfolding found value_at
 either-form-is-the-same-object l k w v same tag n = go (n == 0) (tag == 0) (0x7FFF <? tag)
   where
-    seen : List Written → Found
+    seen : List Written → Option Span
     seen l = occurring tag n (run_at (run_bytes l) 0).elements
 
     go : (a b c : Bool)
-        → value_at (run_bytes l) (if a then Nothing else if b then Nothing else if c then Nothing else seen l)
-        ≡ value_at (run_bytes k) (if a then Nothing else if b then Nothing else if c then Nothing else seen k)
+        → value_at (run_bytes l) (if a then None else if b then None else if c then None else seen l)
+        ≡ value_at (run_bytes k) (if a then None else if b then None else if c then None else seen k)
     go true b c = refl
     go false true c = refl
     go false false true = refl
@@ -187,7 +183,7 @@ either-form-is-the-same-object l k w v same tag n = go (n == 0) (tag == 0) (0x7F
 
 -- THE OUTER TAG AND LENGTH around a run
 pub outer-here : (tag : ℕ) (l : List Written) → Every Writable l → length (run_bytes l) ≤ 0xFF
-    → outer_of (outer_bytes tag l) ≡ Tlv tag (1 + length (length_bytes (length (run_bytes l))))
+    → outer_of (outer_bytes tag l) ≡ Ok (record { tag = tag; start = 1 + length (length_bytes (length (run_bytes l))) })
 unfolding outer_of outer_by outer_bytes
 outer-here tag l w h =
     let v = run_bytes l in

@@ -1,9 +1,8 @@
 -- Runs of elements as a terminal may write them: each tag in one byte or in three, with or without the comprehension flag (document 02, Ask 3).
 use Rattle.std.specs.Prelude.{ℕ, ◌+◌, ◌-◌, ◌/◌, ◌%◌, ◌≤◌, Bool, true, false, List, [], ◌∷◌, ◌++◌, map, length, take, drop}
-use Rattle.std.specs.Prelude.{if◌then◌else◌, ◌==◌}
+use Rattle.std.specs.Prelude.{if◌then◌else◌, ◌==◌, Option, Some, None}
 use Rattle.lists.specs.Lists.{keep, gather}
-use Rattle.rules.specs.declared.Found.{Found}
-use Rattle.rules.specs.declared.Found.TheVariants.{At, Nothing}
+use Rattle.rules.specs.declared.Span.{Span}
 use Rattle.rules.specs.Bytes.{part_of}
 use Rattle.rules.specs.Commands.{length_bytes}
 
@@ -52,6 +51,6 @@ objects l = map (λ (e : Written). e.object) l
 unfoldable pub value_of : (number occurrence : ℕ) → List Object → List (List ℕ)
 value_of number occurrence l = map (λ (o : Object). o.value) (take 1 (drop (occurrence - 1) (keep (λ (o : Object). o.number == number) l)))
 
-unfoldable pub value_at : List ℕ → Found → List (List ℕ)
-value_at s (At value) = part_of s (At value) ∷ []
-value_at s Nothing = []
+unfoldable pub value_at : List ℕ → Option Span → List (List ℕ)
+value_at s (Some value) = part_of s (Some value) ∷ []
+value_at s None = []

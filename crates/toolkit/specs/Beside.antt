@@ -1,7 +1,6 @@
 -- What a caller in C gets of the calls beside the card.
-use Rattle.std.specs.Prelude.{ℕ, ◌≡◌, true, false, List}
-use Rattle.rules.specs.declared.Found.{Found}
-use Rattle.rules.specs.declared.Found.TheVariants.{At, Nothing}
+use Rattle.std.specs.Prelude.{ℕ, ◌≡◌, true, false, List, Option, Some, None}
+use Rattle.rules.specs.declared.Span.{Span}
 use Rattle.rules.specs.Holds.{document}
 use Rattle.rules.specs.Bytes.{found}
 use Rattle.rules.specs.Envelopes.{content_at}
@@ -15,9 +14,9 @@ unfoldable pub made_of : FreshOutcome → Made
 made_of o = record { card = stored o.card; refusal = o.refusal }
 
 -- where something was found; nowhere, an empty part
-unfoldable pub spot_of : Found → Spot
-spot_of (At span) = record { start = span.start; len = span.len; there = true }
-spot_of Nothing = record { start = 0; len = 0; there = false }
+unfoldable pub spot_of : Option Span → Spot
+spot_of (Some span) = record { start = span.start; len = span.len; there = true }
+spot_of None = record { start = 0; len = 0; there = false }
 
 -- The contracts of the doors: a fresh card with a title; an element of a run; the content of an envelope
 abbrev pub Makes : (title : List ℕ) → Made → Type 0

@@ -13,116 +13,80 @@ use card::Card;
 use rules::{Answer, Request};
 
 // Installs an applet with what it asks for.
-#[unsafe(no_mangle)]
-pub extern "C" fn toolkit_install(card: &mut Card, applet: u8, request: Request) -> Answer
+pub fn toolkit_install(card: &mut Card, applet: u8, request: Request) -> Answer
     requires { Left card.old }
     ensures { Does card.old (admin (install applet request)) card.new result [] }
 {
-    let before = *card;
-    let after = before.install(applet, request);
-    *card = after.card;
-    after.answer
+    card.install(applet, request).leave_in(card)
 }
 
 // Deletes an applet, with its rows, timers and registrations.
-#[unsafe(no_mangle)]
-pub extern "C" fn toolkit_delete(card: &mut Card, applet: u8) -> Answer
+pub fn toolkit_delete(card: &mut Card, applet: u8) -> Answer
     requires { Left card.old }
     ensures { Does card.old (admin (delete applet)) card.new result [] }
 {
-    let before = *card;
-    let after = before.delete(applet);
-    *card = after.card;
-    after.answer
+    card.delete(applet).leave_in(card)
 }
 
 // Locks an applet: it is not called and its rows are not shown.
-#[unsafe(no_mangle)]
-pub extern "C" fn toolkit_lock(card: &mut Card, applet: u8) -> Answer
+pub fn toolkit_lock(card: &mut Card, applet: u8) -> Answer
     requires { Left card.old }
     ensures { Does card.old (admin (lock applet)) card.new result [] }
 {
-    let before = *card;
-    let after = before.lock(applet);
-    *card = after.card;
-    after.answer
+    card.lock(applet).leave_in(card)
 }
 
 // Makes an applet selectable again.
-#[unsafe(no_mangle)]
-pub extern "C" fn toolkit_unlock(card: &mut Card, applet: u8) -> Answer
+pub fn toolkit_unlock(card: &mut Card, applet: u8) -> Answer
     requires { Left card.old }
     ensures { Does card.old (admin (unlock applet)) card.new result [] }
 {
-    let before = *card;
-    let after = before.unlock(applet);
-    *card = after.card;
-    after.answer
+    card.unlock(applet).leave_in(card)
 }
 
 // Registers an applet for an event.
-#[unsafe(no_mangle)]
-pub extern "C" fn toolkit_set_event(card: &mut Card, applet: u8, value: i16) -> Answer
+pub fn toolkit_set_event(card: &mut Card, applet: u8, value: i16) -> Answer
     requires { Left card.old }
     ensures { Does card.old (event (set_event applet value)) card.new result [] }
 {
-    let before = *card;
-    let after = before.set_event(applet, value);
-    *card = after.card;
-    after.answer
+    card.set_event(applet, value).leave_in(card)
 }
 
 // Ends an applet's registration for an event.
-#[unsafe(no_mangle)]
-pub extern "C" fn toolkit_clear_event(card: &mut Card, applet: u8, value: i16) -> Answer
+pub fn toolkit_clear_event(card: &mut Card, applet: u8, value: i16) -> Answer
     requires { Left card.old }
     ensures { Does card.old (event (clear_event applet value)) card.new result [] }
 {
-    let before = *card;
-    let after = before.clear_event(applet, value);
-    *card = after.card;
-    after.answer
+    card.clear_event(applet, value).leave_in(card)
 }
 
 // Tells whether an applet is registered for an event.
 #[tactic(auto, using(crate::proofs::Doors::asked))]
-#[unsafe(no_mangle)]
-pub extern "C" fn toolkit_ask_event(card: &mut Card, applet: u8, value: i16) -> Answer
+pub fn toolkit_ask_event(card: &mut Card, applet: u8, value: i16) -> Answer
     requires { Left card.old }
     ensures { Does card.old (event (ask_event applet value)) card.new result [] }
 {
-    let before = *card;
-    let after = before.ask_event(applet, value);
-    after.answer
+    card.ask_event(applet, value).answer
 }
 
 // Takes an applet's request for a poll interval.
-#[unsafe(no_mangle)]
-pub extern "C" fn toolkit_request_poll(card: &mut Card, applet: u8, duration: i16) -> Answer
+pub fn toolkit_request_poll(card: &mut Card, applet: u8, duration: i16) -> Answer
     requires { Left card.old }
     ensures { Does card.old (event (request_poll applet duration)) card.new result [] }
 {
-    let before = *card;
-    let after = before.request_poll(applet, duration);
-    *card = after.card;
-    after.answer
+    card.request_poll(applet, duration).leave_in(card)
 }
 
 // Makes the applet's next entry a row, and gives its identifier.
-#[unsafe(no_mangle)]
-pub extern "C" fn toolkit_new_entry(card: &mut Card, applet: u8, help: bool, text: &[u8]) -> Answer
+pub fn toolkit_new_entry(card: &mut Card, applet: u8, help: bool, text: &[u8]) -> Answer
     requires { Left card.old }
     ensures { Does card.old (entry (new_entry applet help text.now)) card.new result [] }
 {
-    let before = *card;
-    let after = before.new_entry(applet, help, text);
-    *card = after.card;
-    after.answer
+    card.new_entry(applet, help, text).leave_in(card)
 }
 
 // Gives a row of the applet a new text and help mark.
-#[unsafe(no_mangle)]
-pub extern "C" fn toolkit_change_entry(
+pub fn toolkit_change_entry(
     card: &mut Card,
     applet: u8,
     identifier: u8,
@@ -132,78 +96,56 @@ pub extern "C" fn toolkit_change_entry(
     requires { Left card.old }
     ensures { Does card.old (entry (change_entry applet identifier help text.now)) card.new result [] }
 {
-    let before = *card;
-    let after = before.change_entry(applet, identifier, help, text);
-    *card = after.card;
-    after.answer
+    card.change_entry(applet, identifier, help, text)
+        .leave_in(card)
 }
 
 // Enables a row of the applet.
-#[unsafe(no_mangle)]
-pub extern "C" fn toolkit_enable_entry(card: &mut Card, applet: u8, identifier: u8) -> Answer
+pub fn toolkit_enable_entry(card: &mut Card, applet: u8, identifier: u8) -> Answer
     requires { Left card.old }
     ensures { Does card.old (entry (enable_entry applet identifier)) card.new result [] }
 {
-    let before = *card;
-    let after = before.enable_entry(applet, identifier);
-    *card = after.card;
-    after.answer
+    card.enable_entry(applet, identifier).leave_in(card)
 }
 
 // Disables a row of the applet, which keeps its place.
-#[unsafe(no_mangle)]
-pub extern "C" fn toolkit_disable_entry(card: &mut Card, applet: u8, identifier: u8) -> Answer
+pub fn toolkit_disable_entry(card: &mut Card, applet: u8, identifier: u8) -> Answer
     requires { Left card.old }
     ensures { Does card.old (entry (disable_entry applet identifier)) card.new result [] }
 {
-    let before = *card;
-    let after = before.disable_entry(applet, identifier);
-    *card = after.card;
-    after.answer
+    card.disable_entry(applet, identifier).leave_in(card)
 }
 
 // Gives the applet the lowest free timer.
-#[unsafe(no_mangle)]
-pub extern "C" fn toolkit_allocate_timer(card: &mut Card, applet: u8) -> Answer
+pub fn toolkit_allocate_timer(card: &mut Card, applet: u8) -> Answer
     requires { Left card.old }
     ensures { Does card.old (timer-call (allocate applet)) card.new result [] }
 {
-    let before = *card;
-    let after = before.allocate(applet);
-    *card = after.card;
-    after.answer
+    card.allocate(applet).leave_in(card)
 }
 
 // Frees a timer of the applet.
-#[unsafe(no_mangle)]
-pub extern "C" fn toolkit_release_timer(card: &mut Card, applet: u8, timer: u8) -> Answer
+pub fn toolkit_release_timer(card: &mut Card, applet: u8, timer: u8) -> Answer
     requires { Left card.old }
     ensures { Does card.old (timer-call (release applet timer)) card.new result [] }
 {
-    let before = *card;
-    let after = before.release(applet, timer);
-    *card = after.card;
-    after.answer
+    card.release(applet, timer).leave_in(card)
 }
 
 // Begins a session with the terminal's profile, and opens a round for those who take it.
-#[unsafe(no_mangle)]
-pub extern "C" fn toolkit_profile(card: &mut Card, bytes: &[u8]) -> Answer
+pub fn toolkit_profile(card: &mut Card, bytes: &[u8]) -> Answer
     requires { Left card.old }
     ensures { Does card.old (arrival (profile bytes.now)) card.new result [] }
 {
-    let before = *card;
-    let after = before.profile(bytes);
-    *card = after.card;
-    after.answer
+    card.profile(bytes).leave_in(card)
 }
 
 // Opens a round for those whom an envelope is for.
-#[unsafe(no_mangle)]
-pub extern "C" fn toolkit_envelope(card: &mut Card, bytes: &[u8]) -> Answer
+pub fn toolkit_envelope(card: &mut Card, bytes: &[u8]) -> Answer
     requires { Left card.old }
     ensures { Does card.old (arrival (envelope bytes.now)) card.new result [] }
 {
+    // By `leave_in` an envelope would take 792 bytes of stack, not 344.
     let before = *card;
     let after = before.envelope(bytes);
     *card = after.card;
@@ -211,74 +153,50 @@ pub extern "C" fn toolkit_envelope(card: &mut Card, bytes: &[u8]) -> Answer
 }
 
 // Opens a round for those who request a poll interval.
-#[unsafe(no_mangle)]
-pub extern "C" fn toolkit_status(card: &mut Card) -> Answer
+pub fn toolkit_status(card: &mut Card) -> Answer
     requires { Left card.old }
     ensures { Does card.old (arrival status) card.new result [] }
 {
-    let before = *card;
-    let after = before.status();
-    *card = after.card;
-    after.answer
+    card.status().leave_in(card)
 }
 
 // Opens a round for those who wait for the proactive handler.
-#[unsafe(no_mangle)]
-pub extern "C" fn toolkit_settled(card: &mut Card) -> Answer
+pub fn toolkit_settled(card: &mut Card) -> Answer
     requires { Left card.old }
     ensures { Does card.old (arrival settled) card.new result [] }
 {
-    let before = *card;
-    let after = before.settled();
-    *card = after.card;
-    after.answer
+    card.settled().leave_in(card)
 }
 
 // Names the applet whose turn it is in the round; where there is none, the round ends.
-#[unsafe(no_mangle)]
-pub extern "C" fn toolkit_next(card: &mut Card) -> Answer
+pub fn toolkit_next(card: &mut Card) -> Answer
     requires { Left card.old }
     ensures { Does card.old next card.new result [] }
 {
-    let before = *card;
-    let after = before.next();
-    *card = after.card;
-    after.answer
+    card.next().leave_in(card)
 }
 
 // Sends a command of an applet, which is outstanding from then on.
-#[unsafe(no_mangle)]
-pub extern "C" fn toolkit_send(card: &mut Card, applet: u8, bytes: &[u8]) -> Answer
+pub fn toolkit_send(card: &mut Card, applet: u8, bytes: &[u8]) -> Answer
     requires { Left card.old }
     ensures { Does card.old (proactive (send applet bytes.now)) card.new result [] }
 {
-    let before = *card;
-    let after = before.send(applet, bytes);
-    *card = after.card;
-    after.answer
+    card.send(applet, bytes).leave_in(card)
 }
 
 // Hands out the command that is due, at the front of a lent buffer.
 #[tactic(auto, using(crate::proofs::Doors::handed))]
-#[unsafe(no_mangle)]
-pub extern "C" fn toolkit_system_command(card: &mut Card, buf: &mut [u8]) -> Answer
+pub fn toolkit_system_command(card: &mut Card, buf: &mut [u8]) -> Answer
     requires { Left card.old }
     ensures { Does card.old (system_command buf.old) card.new result buf.new }
 {
-    let before = *card;
-    let after = before.system_command(buf);
-    *card = after.card;
-    after.answer
+    card.system_command(buf).leave_in(card)
 }
 
 // Ends the outstanding command.
-#[unsafe(no_mangle)]
-pub extern "C" fn toolkit_response(card: &mut Card) -> Answer
+pub fn toolkit_response(card: &mut Card) -> Answer
     requires { Left card.old }
     ensures { Does card.old (proactive response) card.new result [] }
 {
-    let before = *card;
-    let after = before.response();
-    *card = after.card;
-    after.answer
+    card.response().leave_in(card)
 }

@@ -1,4 +1,4 @@
-// What C links: a door for each call of a card, and doors for a fresh card, the readers and the timer bank alone.
+// The doors that toolkit_c exports to C: one for each call of a card, and doors for a fresh card, the readers and the timer bank alone.
 // include/toolkit.h says the same to a C programmer; a card and a bank are lent by their owner and changed where they stand.
 #![tactic(auto)]
 
@@ -10,7 +10,7 @@ ghost use Rattle.std.specs.Prelude.{◌≡◌};
 ghost use Rattle.toolkit.specs.Beside.{spot_of, Makes, Finds, FindsContent};
 
 use card::Card;
-use rules::{Answer, Bank, Found, Menu};
+use rules::{Answer, Bank, Menu, Span};
 
 // A fresh card, and the refusal's number (0: none).
 #[repr(C)]
@@ -30,31 +30,28 @@ pub struct Spot {
 }
 
 // A fresh card with a title; with an empty one where it is refused.
-#[unsafe(no_mangle)]
-pub extern "C" fn toolkit_fresh(title: &[u8]) -> Made
+pub fn toolkit_fresh(title: &[u8]) -> Made
     ensures { Makes title.now result }
 {
     let made = Card::fresh(title);
-    let card = made.card;
-    let answer = made.answer;
     Made {
-        card,
-        refusal: answer.refusal,
+        card: made.card,
+        refusal: made.answer.refusal,
     }
 }
 
 // Where something was found, as C gets it.
 #[tactic(auto, unfolding(crate::specs::Beside::spot_of))]
-fn spot_of(place: Found) -> Spot
+fn spot_of(place: Option<Span>) -> Spot
     ensures { result ≡ spot_of place }
 {
     match place {
-        Found::At(value) => Spot {
+        Some(value) => Spot {
             start: value.start,
             len: value.len,
             there: true,
         },
-        Found::Nothing => Spot {
+        None => Spot {
             start: 0,
             len: 0,
             there: false,
@@ -63,47 +60,40 @@ fn spot_of(place: Found) -> Spot
 }
 
 // Where the value of an element stands in a run.
-#[unsafe(no_mangle)]
-pub extern "C" fn toolkit_find(run: &[u8], tag: u16, occurrence: usize) -> Spot
+pub fn toolkit_find(run: &[u8], tag: u16, occurrence: usize) -> Spot
     ensures { Finds run.now tag occurrence result }
 {
     spot_of(tlv::locate(run, tag, occurrence))
 }
 
 // Where the handler's content stands in an envelope; nowhere where the envelope is malformed.
-#[unsafe(no_mangle)]
-pub extern "C" fn toolkit_content(envelope: &[u8]) -> Spot
+pub fn toolkit_content(envelope: &[u8]) -> Spot
     ensures { FindsContent envelope.now result }
 {
     spot_of(envelopes::content_at(envelope))
 }
 
 // The title, the help mark and the items of a menu command.
-#[unsafe(no_mangle)]
-pub extern "C" fn toolkit_read_menu(bytes: &[u8]) -> Menu
+pub fn toolkit_read_menu(bytes: &[u8]) -> Menu
     ensures { ReadsMenu bytes.now result }
 {
     menu_reader::read_menu(bytes)
 }
 
 // Gives an applet the lowest free timer of a bank.
-#[unsafe(no_mangle)]
-pub extern "C" fn toolkit_bank_allocate(bank: &mut Bank, applet: u8, limit: u8) -> Answer
+pub fn toolkit_bank_allocate(bank: &mut Bank, applet: u8, limit: u8) -> Answer
     ensures { Allocates bank.old applet limit result bank.new }
 {
-    let before = *bank;
-    let after = timers::allocate(before, applet, limit);
+    let after = timers::allocate(*bank, applet, limit);
     *bank = after.bank;
     after.answer
 }
 
 // Frees a timer of an applet in a bank.
-#[unsafe(no_mangle)]
-pub extern "C" fn toolkit_bank_release(bank: &mut Bank, applet: u8, timer: u8) -> Answer
+pub fn toolkit_bank_release(bank: &mut Bank, applet: u8, timer: u8) -> Answer
     ensures { Releases bank.old applet timer result bank.new }
 {
-    let before = *bank;
-    let after = timers::release(before, applet, timer);
+    let after = timers::release(*bank, applet, timer);
     *bank = after.bank;
     after.answer
 }

@@ -1,4 +1,4 @@
-// A door for each call of a card, by the function of `toolkit` of that name.
+// A door for each call of a card, by the function of `toolkit` of that name: C links a symbol for each, with clauses of its own.
 ghost use Rattle.std.specs.Prelude.{[]};
 ghost use Rattle.rules.specs.Calls.{admin, event, entry, timer as timer-call, arrival, next, proactive, system_command};
 ghost use Rattle.rules.specs.Calls.{install, delete, lock, unlock, set_event, clear_event, ask_event, request_poll, new_entry, change_entry, enable_entry, disable_entry};

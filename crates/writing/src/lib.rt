@@ -3,59 +3,62 @@
 #![tactic(auto)]
 
 ghost use Rattle.std.specs.Prelude.{◌+◌, ◌≤◌, ◌≡◌, length, take};
+ghost use Rattle.std.specs.Prelude.{if◌then◌else◌};
 ghost use Rattle.lists.specs.Lists.{padded};
 ghost use Rattle.lists.specs.Wrote.{Wrote};
-
-use rules::{Desk, Row};
+ghost use Rattle.writing.specs.Puts.{Room, Puts};
 
 // The bytes of s from index at on; the index behind them.
+// With an index, which `held` needs: no proof learns what an array holds that was lent to an Out (tried with a local Out and a passing one).
+#[tactic(auto, using(lists::proofs::WrittenParts::wrote_over))]
 pub fn put(buf: &mut [u8], at: usize, s: &[u8]) -> usize
     requires { at + length s.now ≤ length buf.old }
     ensures { Wrote buf.old at s.now buf.new result }
 {
-    let n = s.len();
-    let mut i = 0;
-    while i < n {
-        buf[at + i] = s[i];
-        i += 1;
+    let end = at + s.len();
+    buf[at..end].copy_from_slice(s);
+    end
+}
+
+// The place in a lent buffer that the next byte is written at.
+#[derive(Drop)]
+pub struct Out<'a> {
+    pub buf: &'a mut [u8],
+    pub at: usize,
+}
+
+impl<'a> Out<'a> {
+    // The front of the buffer.
+    pub fn new(buf: &'a mut [u8]) -> Out<'a>
+        ensures same_buffer { result.buf.ghost_name ≡ buf.entry.ghost_name }
+        ensures untouched { result.buf.now ≡ buf.old }
+        ensures front { result.at ≡ 0 }
+    {
+        Out { buf, at: 0 }
     }
-    at + n
-}
 
-// The bytes of s at the front, as many as there is room for; how many they are.
-fn fill(buf: &mut [u8], s: &[u8]) -> usize
-    ensures { Wrote buf.old 0 (take (length buf.old) s.now) buf.new result }
-{
-    let n = buf.len();
-    if n < s.len() {
-        return put(buf, 0, &s[..n]);
+    // The bytes of s, and on to the place behind them.
+    pub fn put(&mut self, s: &[u8])
+        requires { Room self.old (length s.now) }
+        ensures { Puts self.old s.now self.new }
+    {
+        self.at = put(self.buf, self.at, s);
     }
-    put(buf, 0, s)
 }
 
-// The first 20 bytes, as the title is held.
-pub fn held_title(title: &[u8]) -> [u8; Desk::TITLE]
-    ensures { result ≡ padded 20 0 (take 20 title.now) }
+// The qualifier of a menu command: 80 for the help mark.
+pub fn qualifier(help: bool) -> u8
+    ensures { result ≡ (if help then 0x80 else 0x00) }
 {
-    let mut held = [0; Desk::TITLE];
-    fill(&mut held, title);
-    held
+    if help { 0x80 } else { 0x00 }
 }
 
-// The first 15 bytes, as a row's text is held.
-pub fn held_text(text: &[u8]) -> [u8; Row::TEXT]
-    ensures { result ≡ padded 15 0 (take 15 text.now) }
+// The first N bytes, as what holds N of them: zeros behind a shorter text.
+pub fn held<const N: usize>(bytes: &[u8]) -> [u8; N]
+    ensures { result ≡ padded N 0 (take N bytes.now) }
 {
-    let mut held = [0; Row::TEXT];
-    fill(&mut held, text);
-    held
-}
-
-// The first 32 bytes, as the profile is held.
-pub fn held_profile(bytes: &[u8]) -> [u8; Desk::PROFILE]
-    ensures { result ≡ padded 32 0 (take 32 bytes.now) }
-{
-    let mut held = [0; Desk::PROFILE];
-    fill(&mut held, bytes);
+    let n = N.min(bytes.len());
+    let mut held = [0; N];
+    put(&mut held, 0, &bytes[..n]);
     held
 }

@@ -1,21 +1,10 @@
--- `admission::asks` meets its contract. The invariant: what was found and what is left of the pairs decide.
--- Assumes nothing.
-use mathlib.Core.Path.{◌≡◌, refl}
-use native.Mathlib.Omega.{arith}
+-- `asks` meets its contract.
+use Rattle.std.proofs.Common.{rules, tests}
+use Rattle.std.proofs.lemmas.Iterator.{YieldsList-from_slice}
+use Rattle.std.proofs.lemmas.Iterator.Search.{any_from_yields_List}
+use Rattle.lists.proofs.Chains.{some_by}
 use Rattle.admission.specs.Refuses.{asks_for}
-use lib.ListN.{length}
-use Rattle.lists.proofs.Scan.{telling-more, telling-all}
 use Rattle.admission.proofs.asks.Goals as goal
 
-pub loop-i-init : goal.loop-i-init
-loop-i-init c = record { left = refl }
-
-pub loop-i-preserved : goal.loop-i-preserved
-loop-i-preserved c =
-    let l : length c.args.pairs ≡ 4 = c.well_formed.0.1.0.1 in
-    telling-more (asks_for c.args.identifier) c.args.pairs c.loop-i.i _ (omega arith) refl c.loop-i.invariant
-
 pub returns : goal.returns
-returns c =
-    let l : length c.args.pairs ≡ 4 = c.well_formed.0.1.0.1 in
-    telling-all (asks_for c.args.identifier) c.args.pairs c.loop-i.i (omega arith) c.loop-i.invariant
+returns c = some_by (asks_for c.args.identifier) c.args.pairs.now (any_from_yields_List _ _ _ _ c.any.ensures.ran (YieldsList-from_slice c.args.pairs.now (cc)) (λ x b q k. search (rules, tests)))

@@ -1,15 +1,19 @@
--- `admission::is_repeated` meets its contract. By its three tests.
--- Assumes nothing.
-use mathlib.Core.Path.{refl, sym, ◌∙◌}
-use borrow.Author.Tests.{eq-eqb, ne_eqb}
+-- `is_repeated` meets its contract.
+use Rattle.std.proofs.Common.{refl, sym, ◌∙◌}
+use borrow.Author.Tests.{ne_eqb}
 use Rattle.admission.proofs.Requests.{in-requested, has-asked}
 use Rattle.admission.proofs.is_repeated.Goals as goal
 
-pub returns-then-identifier-eq0 : goal.returns-then-identifier-eq0
-returns-then-identifier-eq0 c = rw (eq-eqb _ _ c.if-identifier-eq0.true) refl
+pub returns-then-asks : goal.returns-then-asks
+returns-then-asks c =
+    c.if-asks.true
+    ∙ rw (ne_eqb _ _ c.if-identifier-ne0.true, in-requested _ c.if-identifier-ne0.true _, sym c.asks.ensures ∙ c.if-asks.true) refl
 
-pub returns-then-here : goal.returns-then-here
-returns-then-here c = rw (ne_eqb _ _ c.if-identifier-eq0.false, in-requested _ c.if-identifier-eq0.false _, sym c.asks-here.ensures ∙ c.if-here.true) refl
-
-pub returns : goal.returns
-returns c = rw (ne_eqb _ _ c.if-identifier-eq0.false, in-requested _ c.if-identifier-eq0.false _, sym c.asks-here.ensures ∙ c.if-here.false, has-asked _ c.if-identifier-eq0.false _) c.is_taken.ensures
+pub returns-else-asks : goal.returns-else-asks
+returns-else-asks c =
+    rw (
+      ne_eqb _ _ c.if-identifier-ne0.true,
+      in-requested _ c.if-identifier-ne0.true _,
+      sym c.asks.ensures ∙ c.if-asks.false,
+      has-asked _ c.if-identifier-ne0.true _,
+    ) c.is_taken.ensures

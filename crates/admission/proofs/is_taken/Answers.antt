@@ -1,21 +1,10 @@
--- `admission::is_taken` meets its contract. The invariant: what was found and what is left of the applets decide.
--- Assumes nothing.
-use mathlib.Core.Path.{◌≡◌, refl}
-use native.Mathlib.Omega.{arith}
-use lib.ListN.{length}
+-- `is_taken` meets its contract.
+use Rattle.std.proofs.Common.{rules, tests}
+use Rattle.std.proofs.lemmas.Iterator.{YieldsList-from_slice}
+use Rattle.std.proofs.lemmas.Iterator.Search.{any_from_yields_List}
+use Rattle.lists.proofs.Chains.{some_by}
 use Rattle.admission.specs.Refuses.{has_requested}
-use Rattle.lists.proofs.Scan.{telling-more, telling-all}
 use Rattle.admission.proofs.is_taken.Goals as goal
 
-pub loop-i-init : goal.loop-i-init
-loop-i-init c = record { left = refl }
-
-pub loop-i-preserved : goal.loop-i-preserved
-loop-i-preserved c =
-    let l : length c.args.grants ≡ 8 = c.well_formed.0.1.0.1 in
-    telling-more (has_requested c.args.identifier) c.args.grants c.loop-i.i _ (omega arith) c.asks-is.ensures c.loop-i.invariant
-
 pub returns : goal.returns
-returns c =
-    let l : length c.args.grants ≡ 8 = c.well_formed.0.1.0.1 in
-    telling-all (has_requested c.args.identifier) c.args.grants c.loop-i.i (omega arith) c.loop-i.invariant
+returns c = some_by (has_requested c.args.identifier) c.args.grants.now (any_from_yields_List _ _ _ _ c.any.ensures.ran (YieldsList-from_slice c.args.grants.now (cc)) (λ x b q k. search (rules, tests)))

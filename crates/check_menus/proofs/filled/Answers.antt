@@ -1,7 +1,6 @@
 -- Each call leaves a card that calls have left.
 -- Assumes nothing.
 use mathlib.Core.Path.{subst⁻¹}
-use borrow.Author.Rules.{rules}
 use Rattle.card.specs.declared.Reply.{Reply}
 use Rattle.card.specs.View.{Left}
 use Rattle.card.specs.Replies.{replied}
@@ -10,4 +9,4 @@ use Rattle.check_menus.proofs.filled.Goals as goal
 
 pub loop-i-preserved : goal.loop-i-preserved
 unfolding replied
-loop-i-preserved c = (search rules, subst⁻¹ (λ (x : Reply). Left x.card) c.new_entry-numbered.ensures (left-again _ _ c.loop-i.invariant.1))
+loop-i-preserved c = subst⁻¹ (λ (x : Reply). Left x.card) c.new_entry.ensures (left-again _ _ c.loop-i.invariant)

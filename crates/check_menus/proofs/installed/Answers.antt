@@ -1,7 +1,6 @@
 -- Each call leaves a card that calls have left.
 -- Assumes nothing.
 use mathlib.Core.Path.{subst⁻¹}
-use borrow.Author.Rules.{rules}
 use Rattle.card.specs.declared.Reply.{Reply}
 use Rattle.card.specs.View.{Left}
 use Rattle.card.specs.Replies.{replied}
@@ -10,4 +9,4 @@ use Rattle.check_menus.proofs.installed.Goals as goal
 
 pub loop-applet-preserved : goal.loop-applet-preserved
 unfolding replied
-loop-applet-preserved c = (search rules, subst⁻¹ (λ (x : Reply). Left x.card) c.install-changed.ensures (left-again _ _ c.loop-applet.invariant.1))
+loop-applet-preserved c = subst⁻¹ (λ (x : Reply). Left x.card) c.install.ensures (left-again _ _ c.loop-applet.invariant)

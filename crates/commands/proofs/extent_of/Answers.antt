@@ -5,45 +5,37 @@ use mathlib.Core.List.{List}
 use lib.ListN.{length}
 use Rattle.lists.specs.Lists.{some?}
 use Rattle.rules.specs.Holds.{Row}
-use Rattle.rules.specs.Held.{view_rows}
-use Rattle.menu.proofs.Tidy.{long}
+use Rattle.rules.specs.Held.{view_rows, view_row}
 use Rattle.menu_shown.specs.Chosen.{is_shown}
 use Rattle.commands.specs.Fits.{rows_bytes}
-use Rattle.commands.proofs.Lines.{len-at, rows_under, rows-part, rows_whole, measured-none, measured-yes, measured-no}
-use borrow.Author.Rules.{rules}
+use Rattle.commands.proofs.Lines.{under, past, row-in, rows_under, rows-part, rows_whole, measured-none, measured-yes, measured-no}
 use Rattle.commands.proofs.extent_of.Goals as goal
-use Rattle.commands.proofs.extent_of.Goals.{then-is, else-is}
+use Rattle.commands.proofs.extent_of.Goals.{then-is_shown, else-is_shown}
 
-pub loop-i-init : goal.loop-i-init
-loop-i-init c = (search rules, λ fits. measured-none _ fits _)
+pub loop-row-init : goal.loop-row-init
+loop-row-init c fits = measured-none _ fits _
 
-pub bounds-rows-i : goal.bounds-rows-i
-bounds-rows-i c = let l = long _ c.requires.tidy in omega arith
-
-pub overflow_add-bytes : goal.overflow_add-bytes
-overflow_add-bytes c =
-    let h = len-at c.args.rows c.requires c.loop-i.i (search rules) in
-    omega arith
-
-pub overflow_add-bytes-then-is : goal.overflow_add-bytes-then-is
-overflow_add-bytes-then-is c =
-    let s = c.args.rows in
-    let h = len-at s c.requires c.loop-i.i (search rules) in
+pub overflow_add-bytes-then-is_shown : goal.overflow_add-bytes-then-is_shown
+overflow_add-bytes-then-is_shown c =
+    let s = c.args.rows.now in
     let k = rows_under s c.requires c.args.selectable in
-    let p = rows-part (is_shown c.args.selectable) (view_rows s) c.loop-i.i in
-    let m = (c.loop-i.invariant.1 c.requires).size in
-    omega arith
+    let p = rows-part (is_shown c.args.selectable) (view_rows s) c.loop-row.row-index in
+    let m = (c.loop-row.invariant c.requires).size in
+    omega (arith, k, p, m, c.from.ensures)
 
-pub loop-i-preserved : goal.loop-i-preserved
-loop-i-preserved c =
-    let is = sym c.is_shown-is.ensures in
-    elim c.if-is.branch [
-      | then-is w ↦ (search rules, λ fits. rw (w.bytes-is, w.help-is) (measured-yes _ fits _ c.loop-i.i (search rules) (is ∙ w.if-is.true) (c.loop-i.invariant.1 fits)))
-      | else-is w ↦ (search rules, λ fits. rw (w.bytes-is, w.help-is) (measured-no _ fits _ c.loop-i.i (search rules) (is ∙ w.if-is.false) (c.loop-i.invariant.1 fits)))
+pub loop-row-preserved : goal.loop-row-preserved
+loop-row-preserved c fits =
+    let s = c.args.rows.now in
+    let u = under s c.listed-row-items.ensures c.loop-row.row-index c.loop-row-test.true in
+    let e = row-in s c.listed-row-items.ensures c.loop-row.row-index c.loop-row-test.true in
+    let is = ap (λ r. is_shown c.args.selectable (view_row r)) (sym e) ∙ sym c.is_shown.ensures in
+    elim c.if-is_shown.branch [
+      | then-is_shown w ↦ rw (w.bytes-is, w.help-is, w.from.ensures, e) (measured-yes s fits _ c.loop-row.row-index u (is ∙ w.if-is_shown.true) (c.loop-row.invariant fits))
+      | else-is_shown w ↦ rw (w.bytes-is, w.help-is) (measured-no s fits _ c.loop-row.row-index u (is ∙ w.if-is_shown.false) (c.loop-row.invariant fits))
     ]
 
 pub returns : goal.returns
 returns c =
-    let m = c.loop-i.invariant.1 c.requires in
-    let whole = rows_whole c.args.rows c.requires c.args.selectable c.loop-i.i (search rules) in
+    let m = c.loop-row.invariant c.requires in
+    let whole = rows_whole c.args.rows.now c.requires c.args.selectable c.loop-row.row-index (past c.args.rows.now c.listed-row-items.ensures c.requires.tidy c.loop-row.row-index c.loop-row-test.false) in
     (m.size ∙ ap (λ (l : List Row). length (rows_bytes l)) whole, m.mark ∙ ap (some? (λ (r : Row). r.help)) whole)

@@ -1,9 +1,7 @@
--- What is kept fits the text; the measure is how many turns are left.
-use Rattle.std.proofs.Common.{◌≤◌, length}
+-- What is kept fits the text.
+use Rattle.std.proofs.Common.{◌≤◌}
+use Rattle.compose.specs.declared.TheConstants.{TEXT}
 use Rattle.compose.proofs.run.Given as goal
 
-abbrev pub invariant-loop-turns : goal.invariant-loop-turns
-invariant-loop-turns g l = l.rest.kept ≤ length l.text
-
-abbrev pub decreases-loop-turns : goal.decreases-loop-turns
-decreases-loop-turns g l = l.turns
+abbrev pub invariant-loop : goal.invariant-loop
+invariant-loop g l = l.rest.0 ≤ TEXT

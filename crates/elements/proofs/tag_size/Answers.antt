@@ -11,14 +11,6 @@ pub returns-in-0 : goal.returns-in-0
 unfolding tag_size in? some?
 returns-in-0 c = search (by-case tag_size, rules)
 
-pub returns-in-128 : goal.returns-in-128
-unfolding tag_size in? some?
-returns-in-128 c = search (by-case tag_size, rules)
-
-pub returns-in-255 : goal.returns-in-255
-unfolding tag_size in? some?
-returns-in-255 c = search (by-case tag_size, rules)
-
 pub returns-in-127 : goal.returns-in-127
 unfolding tag_size in? some?
 returns-in-127 c = search (by-case tag_size, rules)

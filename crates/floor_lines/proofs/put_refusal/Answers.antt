@@ -1,15 +1,20 @@
--- `floor_lines::put_refusal` meets its contract.
+-- `floor_lines::put_refusal` meets its contract: a number below 256 has at most 3 digits.
 -- Assumes nothing.
 use native.Mathlib.Omega.{arith}
 use mathlib.Core.Path.{sym, ap}
-use Rattle.lists.proofs.Writing.{wrote_as}
+use borrow.Author.Rules.{rules}
+use Rattle.writing.proofs.PutLaws.{puts_as}
 use Rattle.floor_lines.specs.Texts.{refusal_text}
+use Rattle.floor_lines.proofs.LineLaws.{decimal-3}
 use Rattle.floor_lines.proofs.put_refusal.Goals as goal
 
-pub returns-in-Number : goal.returns-in-Number
-unfolding refusal_text
-returns-in-Number c = (wrote_as (sym (ap refusal_text c.in-Number.is)) c.put_number.ensures.0, c.put_number.ensures.1)
+pub put_decimal-requires : goal.put_decimal-requires
+put_decimal-requires c = omega (arith, decimal-3 c.in-Some.number (search rules))
 
-pub returns-in-NoCall : goal.returns-in-NoCall
+pub returns-in-Some : goal.returns-in-Some
 unfolding refusal_text
-returns-in-NoCall c = (wrote_as (sym (ap refusal_text c.in-NoCall.is)) c.put.ensures, omega arith)
+returns-in-Some c = (puts_as (sym (ap refusal_text c.in-Some.is)) c.put_decimal.ensures, omega (arith, c.put_decimal.ensures.wrote.next, decimal-3 c.in-Some.number (search rules)))
+
+pub returns-in-None : goal.returns-in-None
+unfolding refusal_text
+returns-in-None c = (puts_as (sym (ap refusal_text c.in-None.is)) c.put.ensures, omega (arith, c.put.ensures.wrote.next))

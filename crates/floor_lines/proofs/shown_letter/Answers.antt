@@ -2,14 +2,15 @@
 -- Assumes nothing.
 use mathlib.Core.Path.{refl}
 use Rattle.lists.proofs.Picks.{pick_yes, pick_no}
+use Rattle.lists.specs.Lists.{in?, some?}
 use Rattle.lists.specs.Text.{ascii}
 use Rattle.rules.specs.Floor.{letters}
 use Rattle.floor_lines.proofs.shown_letter.Goals as goal
 
-pub returns-then-is_in : goal.returns-then-is_in
-unfolding letters ascii
-returns-then-is_in c = pick_yes _ c.is_in.ensures c.if-is_in.true refl
+pub returns-then-contains : goal.returns-then-contains
+unfolding letters ascii in? some?
+returns-then-contains c = pick_yes _ c.contains.ensures.value c.if-contains.true refl
 
-pub returns-else-is_in : goal.returns-else-is_in
-unfolding letters ascii
-returns-else-is_in c = pick_no _ c.is_in.ensures c.if-is_in.false refl
+pub returns-else-contains : goal.returns-else-contains
+unfolding letters ascii in? some?
+returns-else-contains c = pick_no _ c.contains.ensures.value c.if-contains.false refl

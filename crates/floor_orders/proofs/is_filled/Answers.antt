@@ -10,4 +10,4 @@ pub returns-then-n-gt20 : goal.returns-then-n-gt20
 returns-then-n-gt20 c = unfilled-count _ c.if-bytes-ne24.false c.if-n-gt20.true
 
 pub returns : goal.returns
-returns c = filled-rest _ _ c.if-bytes-ne24.false c.if-n-gt20.false c.blank_from.ensures
+returns c = filled-rest _ _ c.if-bytes-ne24.false c.if-n-gt20.false (rw c.from.ensures at c.are_blank.ensures)

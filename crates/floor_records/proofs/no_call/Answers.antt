@@ -1,7 +1,9 @@
 -- `floor_records::no_call` meets its contract.
 -- Assumes nothing.
 use mathlib.Core.Path.{refl}
+use Rattle.rules.specs.Numbers.{refusal_number}
 use Rattle.floor_records.proofs.no_call.Goals as goal
 
 pub returns : goal.returns
+unfolding refusal_number
 returns c = rw c.of_refusal-answer.ensures refl

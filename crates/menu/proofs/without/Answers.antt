@@ -1,32 +1,37 @@
--- `menu::without` meets its contract: the invariant: what stands in the new array is what is kept of the first i rows.
+-- `menu::without` meets its contract: what is left so far is what is kept of the rows that were looked at.
 -- Assumes nothing.
-use Prim.Native.Nat.{ℕ}
-use mathlib.Core.Path.{◌≡◌, ap, subst}
-use mathlib.Core.Bool.{not}
+use Prim.Native.Nat.{ℕ, ◌≤◌, ◌<◌}
 use native.Mathlib.Omega.{arith}
-use lib.ListN.{length, replicate}
+use mathlib.Core.Path.{◌≡◌, ap}
+use mathlib.Core.List.{List}
+use mathlib.Core.Bool.{not}
+use lib.ListN.{length, take, length-take}
 use borrow.Author.Tests.{eq-eqb, ne_eqb}
 use Rattle.lists.specs.Lists.{padded, keep}
-use Rattle.lists.proofs.Keep.{Kept, kept-yes, kept-no}
-use Rattle.rules.specs.declared.Row.{Row}
-use Rattle.menu.proofs.Tidy.{blank, long, not_of, keeps}
-use borrow.Author.Rules.{rules}
+use Rattle.lists.proofs.Keep.{kept-yes, kept-no}
+use Rattle.rules.specs.declared.Row as held
+use Rattle.rules.specs.declared.Rows.{Rows}
+use Rattle.rules.specs.Held.{TidyRows}
+use Rattle.rules.specs.Held.{stored_rows}
+use Rattle.menu.proofs.Tidy.{blank, long, keeps}
 use Rattle.menu.proofs.without.Goals as goal
 use Rattle.menu.proofs.without.Goals.{then-row-applet, else-row-applet}
 
-pub loop-i-init : goal.loop-i-init
-unfolding padded keep
-loop-i-init c = (search rules, record { few = search rules; form = ap (λ (b : Row). replicate 12 b) c.no_row-none.ensures; many = search rules })
+pub loop-row-init : goal.loop-row-init
+unfolding padded keep stored_rows
+loop-row-init c = record { few = omega (arith, ap (λ (x : Rows). x.count) c.no_rows-left.ensures); form = ap (λ (x : Rows). x.at) c.no_rows-left.ensures; many = ap (λ (x : Rows). x.count) c.no_rows-left.ensures }
 
-pub loop-i-preserved : goal.loop-i-preserved
-loop-i-preserved c =
-    let h : length c.args.rows.at ≡ 12 = long _ c.requires in
+-- fewer rows are left than an array has places
+room : (s : Rows) {l : List held.Row} {i k : ℕ} → TidyRows s → l ≡ take s.count s.at → i < length l → k ≤ i → k < 12
+room s t e h f = omega (arith, long s t, ap length e, length-take s.count s.at, h, f)
+
+pub loop-row-preserved : goal.loop-row-preserved
+loop-row-preserved c =
+    let h = room c.args.rows c.requires c.listed-row-items.ensures c.loop-row-test.true c.loop-row.invariant.few in
     elim c.if-row-applet.branch [
-      | then-row-applet w ↦ (search rules, rw (w.at-is, w.k-is) (kept-yes 12 blank _ _ _ _ _ _ (omega arith) (omega arith) (ap not (ne_eqb _ _ w.if-row-applet.true)) c.loop-i.invariant.1))
-      | else-row-applet w ↦ (search rules, rw (w.at-is, w.k-is) (kept-no 12 blank _ _ _ _ _ _ (omega arith) (ap not (eq-eqb _ _ w.if-row-applet.false)) c.loop-i.invariant.1))
+      | then-row-applet w ↦ rw (w.left-is, w.from.ensures) (kept-yes 12 blank _ _ _ _ _ _ c.loop-row-test.true h (ap not (ne_eqb _ _ w.if-row-applet.true)) c.loop-row.invariant)
+      | else-row-applet w ↦ rw w.left-is (kept-no 12 blank _ _ _ _ _ _ c.loop-row-test.true (ap not (eq-eqb _ _ w.if-row-applet.false)) c.loop-row.invariant)
     ]
 
 pub returns : goal.returns
-returns c =
-    let i : c.loop-i.i ≡ c.args.rows.count = omega arith in
-    keeps c.args.rows c.args.applet c.loop-i.k c.loop-i.at c.requires (subst (λ (k : ℕ). Kept 12 blank (not_of c.args.applet) c.args.rows.at k c.loop-i.at c.loop-i.k) i c.loop-i.invariant.1)
+returns c = keeps c.args.rows c.loop-row.left c.args.applet c.loop-row.row-index c.requires (rw c.listed-row-items.ensures at c.loop-row.invariant) (rw c.listed-row-items.ensures at c.loop-row-test.false)

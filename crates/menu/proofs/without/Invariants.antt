@@ -1,11 +1,7 @@
--- `menu::without` meets its contract: the invariant: what stands in the new array is what is kept of the first i rows.
-use Prim.Native.Nat.{◌≤◌, ◌-◌}
+-- `menu::without` meets its contract: what is left so far is what is kept of the rows that were looked at.
 use Rattle.lists.proofs.Keep.{Kept}
 use Rattle.menu.proofs.Tidy.{blank, not_of}
 use Rattle.menu.proofs.without.Given as goal
 
-abbrev pub invariant-loop-i : goal.invariant-loop-i
-invariant-loop-i l = (l.i ≤ l.n) × Kept 12 blank (not_of l.applet) l.rows.at l.i l.at l.k
-
-abbrev pub decreases-loop-i : goal.decreases-loop-i
-decreases-loop-i l = l.n - l.i
+abbrev pub invariant-loop-row : goal.invariant-loop-row
+invariant-loop-row l = Kept 12 blank (not_of l.applet) l.row-items l.row-index l.left.at l.left.count

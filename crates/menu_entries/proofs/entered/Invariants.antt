@@ -1,21 +1,13 @@
--- `menu_entries::entered` meets its contract. The invariants: the bits set are those of the first i rows; the rows from i on stand one
-use Prim.Native.Nat.{◌-◌, ◌≤◌}
-use mathlib.Core.Path.{◌≡◌}
+-- `menu_entries::entered` meets its contract. The invariant: the rows from i on stand one place further down.
+use Prim.Native.Nat.{◌≤◌}
 use mathlib.Core.List.{map}
 use Rattle.lists.proofs.Padded.{Open}
 use Rattle.rules.specs.Held.{stored_row, view_rows}
 use Rattle.menu.proofs.Tidy.{blank}
-use Rattle.menu_entries.proofs.Free.{used_to}
 use Rattle.menu_entries.proofs.entered.Given as goal
 
 abbrev pub invariant-loop-i : goal.invariant-loop-i
-invariant-loop-i l = (l.i ≤ l.n) × (l.used ≡ used_to l.i l.at)
+invariant-loop-i l = (l.k ≤ l.i) × (l.i ≤ l.n) × Open 12 blank (map stored_row (view_rows (record { at = l.initial.at; count = l.n }))) l.i l.at
 
 abbrev pub decreases-loop-i : goal.decreases-loop-i
-decreases-loop-i l = l.n - l.i
-
-abbrev pub invariant-loop-i-then-n-lt-MOST : goal.invariant-loop-i-then-n-lt-MOST
-invariant-loop-i-then-n-lt-MOST l = (l.k ≤ l.i) × (l.i ≤ l.n) × Open 12 blank (map stored_row (view_rows (record { at = l.initial.at; count = l.n }))) l.i l.at
-
-abbrev pub decreases-loop-i-then-n-lt-MOST : goal.decreases-loop-i-then-n-lt-MOST
-decreases-loop-i-then-n-lt-MOST l = l.i
+decreases-loop-i l = l.i

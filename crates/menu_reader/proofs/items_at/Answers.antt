@@ -1,7 +1,7 @@
 -- `items_at` meets its contract: the help mark, then what stands behind the title. Assumes nothing.
+use borrow.Author.Rules.{rules}
 use Rattle.lists.proofs.Decided.{clashing}
 use Rattle.menu_reader.proofs.Items.{items-here, items-none}
-use borrow.Author.Rules.{rules}
 use Rattle.menu_reader.proofs.items_at.Goals as goal
 
 pub returns-then-help : goal.returns-then-help

@@ -1,10 +1,6 @@
 -- `read_items` meets its contract. The invariant: what is read is what stands before `next`, and no other items can stand there.
-use Prim.Native.Nat.{◌-◌}
 use Rattle.menu_reader.proofs.Come.{Come}
 use Rattle.menu_reader.proofs.read_items.Given as goal
 
 abbrev pub invariant-loop-count : goal.invariant-loop-count
 invariant-loop-count l = Come l.bytes l.from l.at l.seen l.next l.count
-
-abbrev pub decreases-loop-count : goal.decreases-loop-count
-decreases-loop-count l = 12 - l.count

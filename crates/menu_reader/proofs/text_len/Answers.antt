@@ -1,6 +1,5 @@
 -- `text_len` meets its contract: each test by a number that every item has there. Assumes nothing.
 use native.Mathlib.Omega.{arith}
-use mathlib.Core.Path.{refl}
 use Rattle.menu_reader.proofs.Items.{text-none, text-is}
 use borrow.Author.Rules.{rules}
 use Rattle.menu_reader.proofs.text_len.Goals as goal
@@ -14,8 +13,8 @@ returns-then-bytes-at c = text-none _ _ (λ n d h i j k e f g. c.if-bytes-at.tru
 pub returns-then-bytes-at-eq0 : goal.returns-then-bytes-at-eq0
 returns-then-bytes-at-eq0 c = text-none _ _ (λ n d h i j k e f g. omega arith)
 
-pub returns-then-n-eq0 : goal.returns-then-n-eq0
-returns-then-n-eq0 c = text-none _ _ (λ n d h i j k e f g. omega arith)
+pub returns-then-n-lt2 : goal.returns-then-n-lt2
+returns-then-n-lt2 c = text-none _ _ (λ n d h i j k e f g. omega arith)
 
 pub returns-then-n : goal.returns-then-n
 returns-then-n c = text-none _ _ (λ n d h i j k e f g. omega arith)
@@ -25,4 +24,4 @@ returns-then-left-n c = text-none _ _ (λ n d h i j k e f g. omega arith)
 
 pub returns : goal.returns
 returns c =
-    text-is _ _ (search rules) refl c.if-bytes-at-eq0.false (search rules) (omega arith) (omega arith)
+    text-is _ _ (search rules) c.from-n.ensures c.if-bytes-at-eq0.false (search rules) (omega arith) (omega arith) (omega arith)

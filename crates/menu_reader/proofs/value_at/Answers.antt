@@ -10,8 +10,8 @@ returns-then-n-lt13 c = value_None _ (λ k h i e f g. omega arith) (λ k i e f g
 pub returns-then-bytes : goal.returns-then-bytes
 returns-then-bytes c = value_None _ (λ k h i e f g. c.if-bytes.true f) (λ k i e f g j. c.if-bytes.true f)
 
-pub returns-then-bytes-n : goal.returns-then-bytes-n
-returns-then-bytes-n c = value-short _ (omega arith) (omega arith) (search rules) c.if-bytes-n.true
+pub returns-then-from-n : goal.returns-then-from-n
+returns-then-from-n c = value-short _ (omega arith) (omega arith) (search rules) (omega (arith, c.from.ensures, c.if-from-n.true))
 
 pub returns-then-n-lt130 : goal.returns-then-n-lt130
 returns-then-n-lt130 c = value_None _ (λ k h i e f g. omega arith) (λ k i e f g j. omega arith)
@@ -22,8 +22,8 @@ returns-then-bytes-2 c = value_None _ (λ k h i e f g. omega arith) (λ k i e f 
 pub returns-then-n-eq130 : goal.returns-then-n-eq130
 returns-then-n-eq130 c = value_None _ (λ k h i e f g. omega arith) (λ k i e f g j. omega arith)
 
-pub returns-then-bytes-n-2 : goal.returns-then-bytes-n-2
-returns-then-bytes-n-2 c = value-long _ (omega arith) (search rules) (search rules) c.if-bytes-n-2.true
+pub returns-then-from-n-2 : goal.returns-then-from-n-2
+returns-then-from-n-2 c = value-long _ (omega arith) (search rules) (search rules) (omega (arith, c.from-2.ensures, c.if-from-n-2.true))
 
 pub returns : goal.returns
 returns c = value_None _ (λ k h i e f g. omega arith) (λ k i e f g j. omega arith)

@@ -1,28 +1,23 @@
--- `chosen_owner` meets its contract. The invariant: none of the first i rows is asked for.
+-- `menu_shown::chosen_owner` meets its contract: the search over the array is the one over the rows.
 -- Assumes nothing.
-use mathlib.Core.Path.{sym, ◌∙◌}
-use native.Mathlib.Omega.{arith}
-use Rattle.lists.proofs.Search.{sought-none, sought-more, sought-hit}
-use Rattle.lists.proofs.Looking.{sought-end}
-use Rattle.menu.proofs.Tidy.{long}
-use Rattle.menu_shown.proofs.Answers.{asked_here, asked-nowhere}
+use mathlib.Core.Path.{ap, ◌∙◌}
 use borrow.Author.Rules.{rules}
+use borrow.Author.Tests.{tests}
+use Rattle.std.proofs.lemmas.Iterator.{YieldsList-from_slice}
+use Rattle.std.proofs.lemmas.Iterator.Search.{find_from_yields_List}
+use Rattle.lists.specs.Lists.{first}
+use Rattle.lists.proofs.Chains.{mapped_first}
+use Rattle.rules.specs.declared.Row as held
+use Rattle.rules.specs.Held.{stored_row}
+use Rattle.menu.proofs.Tidy.{blank}
+use Rattle.menu_shown.proofs.Answers.{asked_at, asked}
 use Rattle.menu_shown.proofs.chosen_owner.Goals as goal
 
-pub loop-i-init : goal.loop-i-init
-loop-i-init c = sought-none _ _ _
-
-pub returns-then-is : goal.returns-then-is
-returns-then-is c =
-    let l = long _ c.requires in
-    asked_here _ c.requires _ _ (sought-hit _ _ _ (omega arith) _ _ (search rules) (sym c.is_chosen-is.ensures ∙ c.if-is.true) c.loop-i.invariant) _ (search rules) (omega arith)
-
-pub loop-i-preserved : goal.loop-i-preserved
-loop-i-preserved c =
-    let l = long _ c.requires in
-    sought-more _ _ _ (omega arith) _ _ (search rules) (sym c.is_chosen-is.ensures ∙ c.if-is.false) c.loop-i.invariant
-
 pub returns : goal.returns
+unfolding stored_row
 returns c =
-    let l = long _ c.requires in
-    asked-nowhere _ c.requires _ _ (sought-end _ _ _ _ (omega arith) (search rules) c.loop-i.invariant) (search rules) (omega arith)
+    let p = asked_at c.args.identifier c.args.help in
+    let f = find_from_yields_List p _ _ c.find.result c.find.ensures.ran (YieldsList-from_slice c.listed.result.now cc) (λ x b q k. search (rules, tests)) in
+    mapped_first p blank (λ (x : held.Row). x.owner) _ c.listed.result.now c.find.result f c.map_or.ensures (λ x k. search rules)
+    ∙ ap (λ l. (first p blank l).owner) c.listed.ensures
+    ∙ asked c.args.rows c.args.identifier c.args.help c.requires

@@ -1,30 +1,11 @@
--- `has_shown_row` meets its contract. The invariant: whether one of the rows is it is told by those from i on.
+-- `menu_shown::has_shown_row` meets its contract: the search over the array is the one over the rows.
 -- Assumes nothing.
-use mathlib.Core.Path.{sym, ◌∙◌}
-use native.Mathlib.Omega.{arith}
-use Rattle.lists.proofs.Looking.{looking-none, looking-more, looking-hit, looking-all}
-use Rattle.menu.proofs.Tidy.{long}
-use Rattle.menu_shown.proofs.Answers.{shown-row}
 use borrow.Author.Rules.{rules}
-use Rattle.rules.specs.Held.{view_row}
+use borrow.Author.Tests.{tests}
+use Rattle.std.proofs.lemmas.Iterator.{YieldsList-from_slice}
+use Rattle.std.proofs.lemmas.Iterator.Search.{any_from_yields_List}
+use Rattle.menu_shown.proofs.Answers.{shown_to, shown_row}
 use Rattle.menu_shown.proofs.has_shown_row.Goals as goal
 
-pub loop-i-init : goal.loop-i-init
-loop-i-init c = looking-none _ _ _
-
-pub returns-then-is : goal.returns-then-is
-unfolding view_row
-returns-then-is c =
-    let l = long _ c.requires in
-    shown-row _ _ (looking-hit _ _ _ (omega arith) _ _ (search rules) (sym c.is_shown-is.ensures ∙ c.if-is.true) c.loop-i.invariant)
-
-pub loop-i-preserved : goal.loop-i-preserved
-unfolding view_row
-loop-i-preserved c =
-    let l = long _ c.requires in
-    looking-more _ _ _ (omega arith) _ _ (search rules) (sym c.is_shown-is.ensures ∙ c.if-is.false) c.loop-i.invariant
-
 pub returns : goal.returns
-returns c =
-    let l = long _ c.requires in
-    shown-row _ _ (looking-all _ _ _ (omega arith) _ (search rules) c.loop-i.invariant)
+returns c = shown_row c.args.rows c.args.selectable c.listed.ensures (any_from_yields_List (shown_to c.args.selectable) _ _ c.any.result c.any.ensures.ran (YieldsList-from_slice c.listed.result.now cc) (λ x b q k. search (rules, tests)))

@@ -1,9 +1,11 @@
--- `is_shown` meets its contract.
--- Assumes nothing.
-use mathlib.Core.Path.{refl}
 use Rattle.rules.specs.Held.{view_row}
+use Rattle.std.proofs.Common.{rules}
 use Rattle.menu_shown.proofs.is_shown.Goals as goal
 
-pub returns : goal.returns
+pub returns-then-row : goal.returns-then-row
 unfolding view_row
-returns c = rw c.has-able.ensures refl
+returns-then-row c = search rules
+
+pub returns-else-row : goal.returns-else-row
+unfolding view_row
+returns-else-row c = search rules

@@ -1,15 +1,16 @@
--- `menu_shown::turns_text` meets its contract: at each return the tests that led there say what `turns_text` is.
--- Assumes nothing.
-use borrow.Author.Tests.{not-true, not-false}
-use Rattle.menu_shown.proofs.Answers.{disabled-stays, other-turns, help-turns}
-use borrow.Author.Rules.{rules}
+use Rattle.rules.specs.Held.{view_row}
+use Rattle.std.proofs.Common.{rules}
+use Rattle.menu_shown.specs.Chosen.{turns_text}
 use Rattle.menu_shown.proofs.turns_text.Goals as goal
 
-pub returns-then-not-row : goal.returns-then-not-row
-returns-then-not-row c = disabled-stays _ _ c.requires.form _ _ (search (not-true, rules))
+pub returns-then-row-help : goal.returns-then-row-help
+unfolding view_row turns_text
+returns-then-row-help c = search rules
 
-pub returns-then-same : goal.returns-then-same
-returns-then-same c = help-turns _ _ c.requires.form _ _ (not-false _ c.if-not-row.false) c.same_text-same.ensures c.if-same.true
+pub returns-else-row-help : goal.returns-else-row-help
+unfolding view_row turns_text
+returns-else-row-help c = search rules
 
-pub returns : goal.returns
-returns c = other-turns _ _ c.requires.form _ _ (not-false _ c.if-not-row.false) c.same_text-same.ensures c.if-same.false
+pub returns-else-row : goal.returns-else-row
+unfolding view_row turns_text
+returns-else-row c = search rules

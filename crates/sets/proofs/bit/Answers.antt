@@ -14,5 +14,5 @@ overflow_shl-result c = omega (arith, is-number _ (sym c.is_number.ensures ∙ c
 pub returns-then-is_number : goal.returns-then-is_number
 returns-then-is_number c = single-is _ (sym c.is_number.ensures ∙ c.if-is_number.true)
 
-pub returns : goal.returns
-returns c = single-none _ (sym c.is_number.ensures ∙ c.if-is_number.false)
+pub returns-else-is_number : goal.returns-else-is_number
+returns-else-is_number c = single-none _ (sym c.is_number.ensures ∙ c.if-is_number.false)

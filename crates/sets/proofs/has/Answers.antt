@@ -14,5 +14,5 @@ overflow_shr-result c = omega (arith, is-number _ (sym c.is_number.ensures ∙ c
 pub returns-then-is_number : goal.returns-then-is_number
 returns-then-is_number c = has-read _ _ (sym c.is_number.ensures ∙ c.if-is_number.true)
 
-pub returns : goal.returns
-returns c = has-none _ _ (sym c.is_number.ensures ∙ c.if-is_number.false)
+pub returns-else-is_number : goal.returns-else-is_number
+returns-else-is_number c = c.if-is_number.false ∙ has-none _ _ (sym c.is_number.ensures ∙ c.if-is_number.false)

@@ -10,5 +10,5 @@ use Rattle.sets.proofs.switched.Goals as goal
 pub returns-then-on : goal.returns-then-on
 returns-then-on c = turned_on _ _ _ c.ranges.set.fits c.bit-own.ensures ∙ ap (λ (on : Bool). set_of (λ k. if k == c.args.n then on else has? c.args.set k)) (sym c.if-on.true)
 
-pub returns : goal.returns
-returns c = turned-off _ _ _ c.ranges.set.fits c.bit-own.ensures ∙ ap (λ (on : Bool). set_of (λ k. if k == c.args.n then on else has? c.args.set k)) (sym c.if-on.false)
+pub returns-else-on : goal.returns-else-on
+returns-else-on c = turned-off _ _ _ c.ranges.set.fits c.bit-own.ensures ∙ ap (λ (on : Bool). set_of (λ k. if k == c.args.n then on else has? c.args.set k)) (sym c.if-on.false)

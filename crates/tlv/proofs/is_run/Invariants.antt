@@ -5,8 +5,8 @@ use lib.ListN.{length}
 use Rattle.rules.specs.Bytes.{run_at, is_run}
 use Rattle.tlv.proofs.is_run.Given as goal
 
-abbrev pub invariant-loop-next : goal.invariant-loop-next
-invariant-loop-next l = (run_at l.s l.at).fills ≡ is_run l.s
+abbrev pub invariant-loop-e : goal.invariant-loop-e
+invariant-loop-e l = (run_at l.s l.at).fills ≡ is_run l.s
 
-abbrev pub decreases-loop-next : goal.decreases-loop-next
-decreases-loop-next l = length l.s - l.at
+abbrev pub decreases-loop-e : goal.decreases-loop-e
+decreases-loop-e l = length l.s - l.at

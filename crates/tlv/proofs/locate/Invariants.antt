@@ -5,8 +5,8 @@ use lib.ListN.{length}
 use Rattle.rules.specs.Bytes.{run_at, occurring, found}
 use Rattle.tlv.proofs.locate.Given as goal
 
-abbrev pub invariant-loop-number : goal.invariant-loop-number
-invariant-loop-number l = (1 ≤ l.left) × (occurring l.tag l.left (run_at l.s l.at).elements ≡ found l.s l.tag l.occurrence)
+abbrev pub invariant-loop-e : goal.invariant-loop-e
+invariant-loop-e l = (1 ≤ l.left) × (occurring l.tag l.left (run_at l.s l.at).elements ≡ found l.s l.tag l.occurrence)
 
-abbrev pub decreases-loop-number : goal.decreases-loop-number
-decreases-loop-number l = length l.s - l.at
+abbrev pub decreases-loop-e : goal.decreases-loop-e
+decreases-loop-e l = length l.s - l.at

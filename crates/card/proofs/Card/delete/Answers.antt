@@ -8,8 +8,8 @@ use Rattle.card.proofs.Deleted.{removes, deletes, deletes-none}
 use Rattle.card.proofs.Card.delete.Goals as goal
 use Rattle.card.proofs.Card.delete.Goals.{then-there, else-there}
 
-pub menu_turns-menu-requires : goal.menu_turns-menu-requires
-menu_turns-menu-requires c = tidy-rows _ c.requires
+pub due_switched-due-requires : goal.due_switched-due-requires
+due_switched-due-requires c = tidy-rows _ c.requires
 
 pub roll_without-next_roll-requires : goal.roll_without-next_roll-requires
 roll_without-next_roll-requires c =
@@ -25,8 +25,8 @@ returns c =
       | then-there w ↦ deletes c.args.self c.requires c.args.applet c.has-there.ensures c.absent_refusal.ensures w.if-there.true
           (w.left-is
           ∙ removes c.args.self c.requires c.args.applet (sym c.has-there.ensures ∙ w.if-there.true)
-          w.switched-is.ensures w.menu_turns-menu.ensures w.codes_turn-events.ensures w.due_switched-polling.ensures w.due_after-menu_due.ensures w.due_after-events_due.ensures
-          w.roll_without-next_roll.ensures w.unregistered-next_registered.ensures w.made_with-next_made.ensures w.poll_with-next_polls.ensures w.freed-left.ensures w.owner_without.ensures
+          w.due_switched-due.ensures.menu w.due_switched-due.ensures.events w.due_switched-due.ensures.polling w.switched-selectable.ensures
+          w.roll_without-next_roll.ensures w.unregistered-next_registered.ensures (w.table_with-next_made.ensures 0) (w.table_with-next_polls.ensures 0) w.freed-left.ensures w.owner_without.ensures
           w.without-next_rows.ensures w.switched-waiting.ensures)
           c.of_refusal-answer.ensures
       | else-there w ↦ deletes-none c.args.self c.requires c.args.applet c.has-there.ensures c.absent_refusal.ensures w.if-there.false w.left-is c.of_refusal-answer.ensures

@@ -3,9 +3,6 @@
 use Rattle.card.proofs.FreshCard.{kept-long, kept-short, freshens}
 use Rattle.card.proofs.Card.fresh.Goals as goal
 
-pub slice_bounds-made-end : goal.slice_bounds-made-end
-slice_bounds-made-end c = kept-long c.args.title.now c.title_refusal-refusal.ensures c.kept_length-n.ensures
-
 pub made-card-requires : goal.made-card-requires
 made-card-requires c = kept-short c.args.title.now c.title_refusal-refusal.ensures c.kept_length-n.ensures
 

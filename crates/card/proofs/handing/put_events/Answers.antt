@@ -1,16 +1,8 @@
 -- `put_events` meets its contract.
 -- Assumes nothing.
-use Rattle.card.proofs.Written.{codes-room, codes-count, codes-few, codes-wrote}
+use mathlib.Core.Path.{◌∙◌}
+use Rattle.card.proofs.Written.{codes-wrote}
 use Rattle.card.proofs.handing.put_events.Goals as goal
 
-pub slice_bounds-at-end : goal.slice_bounds-at-end
-slice_bounds-at-end c = codes-room _ c.shown_codes-shown.ensures
-
-pub slice_bounds-write_events-end : goal.slice_bounds-write_events-end
-slice_bounds-write_events-end c = codes-count _ c.shown_codes-shown.ensures
-
-pub write_events-requires : goal.write_events-requires
-write_events-requires c = (codes-few _ c.shown_codes-shown.ensures, c.requires)
-
 pub returns : goal.returns
-returns c = codes-wrote _ c.shown_codes-shown.ensures c.write_events.ensures
+returns c = codes-wrote _ (c.deref.ensures.0 ∙ c.shown_codes-shown.ensures) c.write_events.ensures

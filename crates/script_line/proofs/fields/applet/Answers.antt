@@ -1,30 +1,24 @@
--- `script_line::fields::applet` meets its contract.
--- Assumes nothing.
-use mathlib.Core.Path.{ap, ◌∙◌}
-use Rattle.script_line.specs.Words.{behind, decimal_of}
-use Rattle.script_line.proofs.WordLaws.{behind-is}
-use Rattle.script_line.proofs.LineLaws.{at-word, applet-none, applet-large, applet-is, applet-bad}
+use Rattle.std.proofs.Common.{arith}
+use Rattle.std.proofs.lemmas.Result.{err_from_is_err_and}
+use Rattle.script_line.proofs.LineLaws.{applet-none, applet-bad, applet-large, applet-is}
 use Rattle.script_line.proofs.fields.applet.Goals as goal
 
-pub returns-then-at-line : goal.returns-then-at-line
-returns-then-at-line c = applet-none c.args.line.now c.word_start-at.ensures c.if-at-line.true
+pub returns-in_default : goal.returns-in_default
+returns-in_default c = applet-none c.args.line.now c.in_default.ensures
 
-pub returns-then-v-gt255 : goal.returns-then-v-gt255
-returns-then-v-gt255 c =
-    let line = c.args.line.now in
-    let v = at-word decimal_of line c.word_start-at.result c.word_end-end.ensures.0 c.decimal-value.ensures c.in-Value.is in
-    applet-large line c.word_start-at.ensures c.if-at-line.false v c.if-v-gt255.true
+pub returns-in_err-decimal : goal.returns-in_err-decimal
+returns-in_err-decimal c =
+    let next = c.in-Some.ensures in
+    let p = err_from_is_err_and c.from_residual.result c.from_residual.ensures.1 in
+    rw (p.1, p.2) (applet-bad c.args.line.now next.0 next.1 c.in_err-decimal.ensures)
 
-pub returns-else-v-gt255 : goal.returns-else-v-gt255
-returns-else-v-gt255 c =
-    let line = c.args.line.now in
-    let e = c.word_end-end.ensures in
-    let g = c.word_start-at in
-    let v = at-word decimal_of line g.result e.0 c.decimal-value.ensures c.in-Value.is in
-    (applet-is line g.ensures c.if-at-line.false v c.if-v-gt255.false, e.1, behind-is line g.result e.0 ∙ ap behind g.ensures.left)
+pub returns-in-Ok : goal.returns-in-Ok
+returns-in-Ok c =
+    let next = c.in-Some.ensures in
+    let byte = c.in-Ok.ensures in
+    (rw byte.1 (applet-is c.args.line.now next.0 next.1 c.in_ok-decimal.ensures (omega (arith, byte.0))), next.2)
 
-pub returns-in-Bad : goal.returns-in-Bad
-returns-in-Bad c =
-    let line = c.args.line.now in
-    let v = at-word decimal_of line c.word_start-at.result c.word_end-end.ensures.0 c.decimal-value.ensures c.in-Bad.is in
-    applet-bad line c.word_start-at.ensures c.if-at-line.false v
+pub returns-in-Err : goal.returns-in-Err
+returns-in-Err c =
+    let next = c.in-Some.ensures in
+    applet-large c.args.line.now next.0 next.1 c.in_ok-decimal.ensures (omega (arith, c.in-Err.ensures))

@@ -1,27 +1,25 @@
--- `script_line::fields::event` meets its contract.
--- Assumes nothing.
-use Rattle.script_line.specs.Words.{signed_of}
-use Rattle.script_line.proofs.RecordLaws.{last-gave}
-use Rattle.script_line.proofs.LineLaws.{at-word, event-none, event-is, event-bad, gave-by, two_bytes}
+use Rattle.std.proofs.Common.{rules, sym, ap, ◌∙◌, Ok}
+use Rattle.std.proofs.lemmas.Result.{err_from_is_err_and}
+use Rattle.script_line.proofs.LineLaws.{event-none, event-bad, event-is, last-yes, last-no}
 use Rattle.script_line.proofs.fields.event.Goals as goal
 
-pub returns-then-at-line : goal.returns-then-at-line
-returns-then-at-line c = event-none c.args.line.now c.word_start-at.ensures c.if-at-line.true
+pub returns-in_default : goal.returns-in_default
+returns-in_default c = sym (event-none c.args.line.now c.in_default.ensures)
 
-pub returns-in-Value : goal.returns-in-Value
-returns-in-Value c =
-    let line = c.args.line.now in
-    let e = c.word_end-end.ensures in
-    let g = c.word_start-at in
-    let p = c.put-in-Value in
-    let n = at-word signed_of line g.result e.0 c.signed-value.ensures c.in-Value.is in
-    gave-by c.if_last.result p.new.out
-    (event-is line g.ensures c.if-at-line.false n e.0 (two_bytes p.ensures.1 c.put.ensures.1))
-    (last-gave p.new.out _ c.if_last.ensures p.ensures.0)
+pub returns-in_err-value : goal.returns-in_err-value
+returns-in_err-value c =
+    let next = c.in-Some.ensures in
+    let p = err_from_is_err_and c.from_residual.result c.from_residual.ensures.1 in
+    rw (p.1, p.2) (sym (event-bad c.args.line.now next.0 next.1 c.in_err-value.ensures))
 
-pub returns-in-Bad : goal.returns-in-Bad
-returns-in-Bad c =
-    let line = c.args.line.now in
-    let g = c.word_start-at in
-    let n = at-word signed_of line g.result c.word_end-end.ensures.0 c.signed-value.ensures c.in-Bad.is in
-    event-bad line g.ensures c.if-at-line.false n
+pub returns-in_err-nothing_left : goal.returns-in_err-nothing_left
+returns-in_err-nothing_left c =
+    let next = c.in-Some.ensures in
+    let r = c.from_residual-in_err-nothing_left in
+    let p = err_from_is_err_and r.result r.ensures.1 in
+    rw (p.1, p.2, c.in_err-nothing_left.ensures.cause) (sym (event-is c.args.line.now next.0 next.1 c.in_ok-value.ensures next.2 ∙ last-no _ _ (search rules)))
+
+pub returns : goal.returns
+returns c =
+    let next = c.in-Some.ensures in
+    sym (event-is c.args.line.now next.0 next.1 c.in_ok-value.ensures next.2 ∙ last-yes _ _ (search rules) ∙ ap Ok (sym c.to_be_bytes.ensures))

@@ -1,22 +1,12 @@
--- `script_line::fields::install` meets its contract.
--- Assumes nothing.
-use mathlib.Core.Path.{ap}
-use Rattle.script_line.specs.Lines.{installed, arguments_of, bytes_of}
-use lib.ListN.{drop}
-use Rattle.script_line.proofs.RecordLaws.{counted-at, install-gave}
-use Rattle.script_line.proofs.LineLaws.{gave_at, gave-bad}
+use Rattle.std.proofs.Common.{◌∙◌}
+use Rattle.std.proofs.lemmas.Result.{err_from_is_err_and}
+use Rattle.script_line.proofs.LineLaws.{install-is, install-bad}
 use Rattle.script_line.proofs.fields.install.Goals as goal
 
-pub returns-in-Of : goal.returns-in-Of
-unfolding arguments_of
-returns-in-Of c =
-    let b = c.bytes-count in
-    let a = c.args in
-    install-gave (gave_at (bytes_of 12 (drop a.from a.line.now)) b.new.out b.ensures.0 c.in-Of.is) (counted-at _ b.ensures.1 c.in-Of.is)
+pub returns-in_err-given : goal.returns-in_err-given
+returns-in_err-given c =
+    let p = err_from_is_err_and c.from_residual.result c.from_residual.ensures.1 in
+    rw (p.1, p.2) (install-bad c.args.line.now c.in_err-given.ensures)
 
-pub returns-in-Bad : goal.returns-in-Bad
-unfolding arguments_of installed
-returns-in-Bad c =
-    let b = c.bytes-count in
-    let a = c.args in
-    ap installed (gave-bad (bytes_of 12 (drop a.from a.line.now)) b.new.out b.ensures.0 c.in-Bad.is)
+pub returns : goal.returns
+returns c = install-is c.args.line.now c.in_ok-given.ensures (c.copy_from_slice.ensures.after ∙ c.deref.ensures.0) c.len.ensures.value

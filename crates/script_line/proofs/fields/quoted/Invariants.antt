@@ -1,13 +1,7 @@
--- `script_line::fields::quoted` meets its contract.
-use Prim.Native.Nat.{◌-◌, ◌≤◌}
-use mathlib.Core.Path.{◌≡◌}
-use lib.ListN.{length, drop}
+-- What is left to read, behind what was found, gives what the whole text gives.
+use Rattle.std.proofs.Common.{◌≡◌, drop}
 use Rattle.script_line.specs.Lines.{bytes_from, in_text}
-use Rattle.script_line.specs.Records.{Free, took}
 use Rattle.script_line.proofs.fields.quoted.Given as goal
 
-abbrev pub invariant-loop-at : goal.invariant-loop-at
-invariant-loop-at l = Free l.count l.out × (l.count ≤ l.limit) × (l.from ≤ l.at) × (l.at ≤ length l.line) × (bytes_from l.limit (took l.n l.initial.out) in_text (drop l.from l.line) ≡ bytes_from l.limit (took l.count l.out) in_text (drop l.at l.line))
-
-abbrev pub decreases-loop-at : goal.decreases-loop-at
-decreases-loop-at l = length l.line - l.at
+abbrev pub invariant-loop-i : goal.invariant-loop-i
+invariant-loop-i g l = bytes_from g.row.N l.initial.found.items in_text l.line ≡ bytes_from g.row.N l.found.items in_text (drop l.i l.line)

@@ -1,37 +1,60 @@
--- `script_line::line::named` meets its contract.
--- Assumes nothing.
-use mathlib.Core.Path.{◌∙◌}
-use lib.ListN.{drop}
-use Rattle.script_line.specs.Words.{skipped, behind}
-use Rattle.script_line.specs.Lines.{applet_of}
-use Rattle.script_line.proofs.RecordLaws.{gave-free, heard-finished}
-use Rattle.script_line.proofs.LineLaws.{named-at, named-not, named-is, named-bad}
-use borrow.Author.Rules.{rules}
+use Rattle.std.proofs.Common.{rules, sym, ◌∙◌, ap, Ok}
+use Rattle.std.proofs.lemmas.Result.{err_from_is_err_and}
+use Rattle.script_line.specs.Lines.{arguments_of}
+use Rattle.script_line.proofs.LineLaws.{record-is, record-bad, named-is, named-none, last-yes, last-no}
 use Rattle.script_line.proofs.line.named.Goals as goal
 
-pub arguments-count-requires : goal.arguments-count-requires
-arguments-count-requires c =
-    let s = c.args in
-    let t = drop s.from s.line.now in
-    ((named-at (applet_of t) (behind (skipped t)) s.line.now c.applet-found.ensures c.in-Named.is).1, search rules)
+pub returns-in_err-number : goal.returns-in_err-number
+returns-in_err-number c =
+    let p = err_from_is_err_and c.from_residual.result c.from_residual.ensures.1 in
+    rw (p.1, p.2) (named-none c.args.kind c.args.letter c.args.line.now c.in_err-number.ensures)
 
-pub finish-requires : goal.finish-requires
-finish-requires c =
-    let a = c.arguments-count in
-    gave-free _ a.result a.new.out a.ensures
+pub returns-in_err-install-in-Install : goal.returns-in_err-install-in-Install
+returns-in_err-install-in-Install c =
+    let named = c.in_ok-number.ensures in
+    let r = c.from_residual-in_err-install-in-Install in
+    let p = err_from_is_err_and r.result r.ensures.1 in
+    rw (p.1, p.2) (named-is c.args.letter c.args.line.now c.in-Install.is named.0 named.1 (record-bad c.args.letter c.in_ok-number.number (sym c.in_err-install-in-Install.ensures)))
 
-pub returns-in-Named : goal.returns-in-Named
-returns-in-Named c =
-    let f = c.finish in
-    let a = c.arguments-count in
-    let s = c.args in
-    let t = drop s.from s.line.now in
-    let n = named-at (applet_of t) (behind (skipped t)) s.line.now c.applet-found.ensures c.in-Named.is in
-    heard-finished _ f.result a.result s.letter _ a.new.out f.new.out a.ensures f.ensures
-    ∙ named-is s.kind s.letter n.0 n.2
+pub returns-in_ok-install-in-Install : goal.returns-in_ok-install-in-Install
+returns-in_ok-install-in-Install c =
+    let named = c.in_ok-number.ensures in
+    named-is c.args.letter c.args.line.now c.in-Install.is named.0 named.1 (record-is c.args.letter c.in_ok-number.number (sym c.in_ok-install-in-Install.ensures) c.sealed-record.ensures)
 
-pub returns-in-Bad : goal.returns-in-Bad
-returns-in-Bad c =
-    let s = c.args in
-    let t = drop s.from s.line.now in
-    named-bad s.kind s.letter (behind (skipped t)) (named-not (applet_of t) (behind (skipped t)) s.line.now c.applet-found.ensures c.in-Bad.is)
+pub returns-in_err-entry-in-Entry : goal.returns-in_err-entry-in-Entry
+returns-in_err-entry-in-Entry c =
+    let named = c.in_ok-number.ensures in
+    let r = c.from_residual-in_err-entry-in-Entry in
+    let p = err_from_is_err_and r.result r.ensures.1 in
+    rw (p.1, p.2) (named-is c.args.letter c.args.line.now c.in-Entry.is named.0 named.1 (record-bad c.args.letter c.in_ok-number.number (c.in_err-entry-in-Entry.ensures)))
+
+pub returns-in_ok-entry-in-Entry : goal.returns-in_ok-entry-in-Entry
+returns-in_ok-entry-in-Entry c =
+    let named = c.in_ok-number.ensures in
+    named-is c.args.letter c.args.line.now c.in-Entry.is named.0 named.1 (record-is c.args.letter c.in_ok-number.number (c.in_ok-entry-in-Entry.ensures ∙ ap Ok (sym c.deref.ensures.0)) c.sealed-record-in-Entry.ensures)
+
+pub returns-in_err-event-in-Event : goal.returns-in_err-event-in-Event
+returns-in_err-event-in-Event c =
+    let named = c.in_ok-number.ensures in
+    let r = c.from_residual-in_err-event-in-Event in
+    let p = err_from_is_err_and r.result r.ensures.1 in
+    rw (p.1, p.2) (named-is c.args.letter c.args.line.now c.in-Event.is named.0 named.1 (record-bad c.args.letter c.in_ok-number.number (sym c.in_err-event-in-Event.ensures)))
+
+pub returns-in_ok-event-in-Event : goal.returns-in_ok-event-in-Event
+returns-in_ok-event-in-Event c =
+    let named = c.in_ok-number.ensures in
+    named-is c.args.letter c.args.line.now c.in-Event.is named.0 named.1 (record-is c.args.letter c.in_ok-number.number (sym c.in_ok-event-in-Event.ensures) c.sealed-record-in-Event.ensures)
+
+pub returns-in_err-nothing_left-in-Nothing : goal.returns-in_err-nothing_left-in-Nothing
+unfolding arguments_of
+returns-in_err-nothing_left-in-Nothing c =
+    let named = c.in_ok-number.ensures in
+    let r = c.from_residual-in_err-nothing_left-in-Nothing in
+    let p = err_from_is_err_and r.result r.ensures.1 in
+    rw (p.1, p.2, c.in_err-nothing_left-in-Nothing.ensures.cause) (named-is c.args.letter c.args.line.now c.in-Nothing.is named.0 named.1 (record-bad c.args.letter c.in_ok-number.number (last-no _ _ (search rules))))
+
+pub returns-in_ok-nothing_left-in-Nothing : goal.returns-in_ok-nothing_left-in-Nothing
+unfolding arguments_of
+returns-in_ok-nothing_left-in-Nothing c =
+    let named = c.in_ok-number.ensures in
+    named-is c.args.letter c.args.line.now c.in-Nothing.is named.0 named.1 (record-is c.args.letter c.in_ok-number.number (last-yes _ _ (search rules)) c.sealed-record-in-Nothing.ensures)

@@ -1,9 +1,0 @@
--- The measure is how many bytes are left to move.
-use Rattle.std.proofs.Common.{◌-◌, ◌≤◌}
-use Rattle.compose.proofs.keep.Given as goal
-
-abbrev pub invariant-loop-i : goal.invariant-loop-i
-invariant-loop-i l = l.i ≤ l.n
-
-abbrev pub decreases-loop-i : goal.decreases-loop-i
-decreases-loop-i l = l.n - l.i

@@ -1,2 +1,0 @@
--- What decides what an envelope says, and whether it is malformed.
-pub mod Judged

@@ -1,2 +1,0 @@
--- The laws of a turn.
-pub mod Turns

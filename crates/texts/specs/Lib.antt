@@ -1,2 +1,0 @@
--- The definitions that the crate's contracts cite.
-pub mod Places
