@@ -26,12 +26,13 @@ impl Card {
         ensures { Replies self (proactive (send applet bytes.now)) result }
     {
         let command = envelopes::read_command(bytes);
-        let mut left = self;
-        let there = sets::has(left.roll.present, applet);
-        let bank = left.bank;
-        let was = left.desk.outstanding;
+        let there = sets::has(self.roll.present, applet);
+        let bank = self.bank;
+        let was = self.desk.outstanding;
         let refusal = refusals::send_refusal(command, applet, there, bank, was);
         let is = outstanding_after(refusal, was, true);
+        // judged first, and copied then: the other way round the card is copied once more, 600 bytes of stack for 72
+        let mut left = self;
         left.desk.outstanding = is;
         let answer = answers::of_refusal(refusal);
         Reply { card: left, answer }
