@@ -75,7 +75,7 @@ pub fn change_refusal(there: bool, its: bool, fits: bool) -> Result<(), Refused>
 pub fn new_refusal(there: bool, entries: u8, made: u8, fits: bool) -> Result<(), Refused>
     ensures { refusal_number result ≡ first_holding (line 2 (not there) ∷ line 10 (entries ≤? made) ∷ line 12 (not fits) ∷ []) }
 {
-    // Three lines with `?` here, and the call on the card would copy it: 1,544 bytes of stack, not 568.
+    // Three lines with `?` here, and the call on the card copies it: 1,736 bytes of stack for 1,000, and 93 ns for 59.
     let first = if there {
         Refused::AllMade.when(entries <= made)
     } else {
