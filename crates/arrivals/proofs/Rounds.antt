@@ -1,21 +1,25 @@
 -- What arrived, by its kind and number; and what arrivals and turns make of the round's struct.
 -- Assumes nothing.
-use Prim.Native.Nat.{ℕ}
+use Prim.Native.Nat.{ℕ, ◌≤◌}
 use native.Mathlib.Omega.{arith}
-use mathlib.Core.Path.{◌≡◌, refl, ◌∙◌}
+use mathlib.Core.Path.{◌≡◌, refl, sym, ap, ◌∙◌}
 use mathlib.Core.Bool.{Bool, true, false, ◌||◌}
 use borrow.Author.Tests.{eqb-true, eq-eqb, ne_eqb}
-use Rattle.std.specs.Prelude.{Ok, if◌then◌else◌, ◌==◌}
+use Rattle.std.specs.Prelude.{Result, Ok, Err, if◌then◌else◌, ◌==◌}
 use Rattle.lists.proofs.Decided.{clashing, neither}
-use Rattle.rules.specs.declared.Envelope.TheVariants.{Menu}
+use Rattle.rules.specs.declared.Envelope.{Envelope}
+use Rattle.rules.specs.declared.Envelope.TheVariants.{Menu, Call, Download, Expiry, Unrecognized}
+use Rattle.rules.specs.declared.Malformed.{Malformed}
+use Rattle.rules.specs.declared.Kind.{Kind}
+use Rattle.rules.specs.declared.Kind.TheVariants.{Event, Issuer, Reserved, Unsupported}
 use Rattle.rules.specs.declared.Round as held
 use Rattle.rules.specs.declared.Arrived.{Arrived}
 use Rattle.rules.specs.Holds.{Arrival, event, choice, help, expiry, status, nothing}
-use Rattle.rules.specs.Events.{handler_available}
-use Rattle.rules.specs.Arrivals.{arrival_of}
+use Rattle.rules.specs.Events.{handler_available, kind_of_code}
+use Rattle.rules.specs.Arrivals.{download, arrival_of}
 use Rattle.rules.specs.Rounds.{by_settled}
 use Rattle.rules.specs.Held.{view_arrival, stored_arrival}
-use Rattle.sets.specs.Sets.{single, switched_set}
+use Rattle.sets.specs.Sets.{single, set_both, switched_set}
 use Rattle.arrivals.specs.Rounds.{leaving}
 
 -- WHAT ARRIVED, by its kind
@@ -80,7 +84,38 @@ arrival-back (expiry k) = refl
 arrival-back status = refl
 arrival-back nothing = refl
 
--- the round after a turn of one that was named
+-- with an envelope no STATUS arrives
+few-kinds : (e : Result Envelope Malformed) → (stored_arrival (arrival_of e)).kind ≤ 4
+unfolding stored_arrival arrival_of download
+few-kinds (Ok (Menu item false)) = omega arith
+few-kinds (Ok (Menu item true)) = omega arith
+few-kinds (Ok Call) = omega arith
+few-kinds (Ok (Download code)) = go (kind_of_code code)
+  where
+    go : (k : Kind) → (stored_arrival (download k)).kind ≤ 4
+    go (Event place) = omega arith
+    go Issuer = omega arith
+    go Reserved = omega arith
+    go Unsupported = omega arith
+few-kinds (Ok (Expiry timer)) = omega arith
+few-kinds (Ok Unrecognized) = omega arith
+few-kinds (Err r) = omega arith
+
+module _ (a : Arrived) (e : Result Envelope Malformed) (is : a ≡ stored_arrival (arrival_of e)) where
+  pub arrives : {b : Arrival} → view_arrival a ≡ b → arrival_of e ≡ b
+  arrives v = sym (arrival-back (arrival_of e)) ∙ ap view_arrival (sym is) ∙ v
+
+  pub no-status : a.kind ≡ 5 → ⊥
+  no-status five =
+      let kind : a.kind ≡ (stored_arrival (arrival_of e)).kind = ap (λ (b : Arrived). b.kind) is in
+      omega (arith, few-kinds e)
+
+-- the round after an accepted arrival, and after a turn of one that was named
+pub opens
+    : (a : Arrived) (r : held.Round) (whom present : ℕ) {refusal w : ℕ} → refusal ≡ 0 → w ≡ set_both whom present
+    → ◌≡◌ {A = held.Round} (record { «open» = true; arrived = a; waiting = w }) (if refusal == 0 then record { «open» = true; arrived = a; waiting = set_both whom present } else r)
+opens a r whom present e f = rw (e, f) refl
+
 pub turns
     : (r : held.Round) (n : ℕ) (none : held.Round) {w : ℕ} → (n ≡ 0 → ⊥) → w ≡ switched_set r.waiting n false
     → ◌≡◌ {A = held.Round} (record { «open» = r.«open»; arrived = r.arrived; waiting = w }) (if n == 0 then none else leaving r n)

@@ -1,9 +1,13 @@
 -- Whom an arrival is for, as a set of applets: of every number that is there the set says what the rules say.
-use Rattle.std.specs.Prelude.{ℕ, ◌≤◌, ◌≡◌, List}
+use Rattle.std.specs.Prelude.{ℕ, ◌≤◌, ◌≡◌, List, Result}
 use Rattle.lists.specs.Tables.{table}
 use Rattle.sets.specs.Sets.{has?}
+use Rattle.rules.specs.declared.Arrived.{Arrived}
+use Rattle.rules.specs.declared.Envelope.{Envelope}
+use Rattle.rules.specs.declared.Malformed.{Malformed}
 use Rattle.rules.specs.Holds.{Row, Tables, Arrival, event}
-use Rattle.rules.specs.Arrivals.{wants}
+use Rattle.rules.specs.Arrivals.{arrival_of, wants}
+use Rattle.rules.specs.Held.{stored_arrival}
 use Rattle.runs.specs.Sound.{SoundTables}
 use Rattle.applets.specs.ByNumber.{at, registered_set, poll_table}
 
@@ -26,3 +30,7 @@ IsForOn rows g owners control polls a s =
     → t.control ≡ control
     → polls ≡ poll_table t.applets
     → IsFor t a s
+
+-- the same of every envelope with which this arrives, whatever the requests: none arrives as STATUS
+abbrev pub IsForEnvelope : List Row → (registered owners : List ℕ) (control : ℕ) → Arrived → (s : ℕ) → Type 0
+IsForEnvelope rows g owners control a s = (e : Result Envelope Malformed) → a ≡ stored_arrival (arrival_of e) → (polls : List ℕ) → IsForOn rows g owners control polls (arrival_of e) s

@@ -12,7 +12,7 @@ ghost use Rattle.rules.specs.Arrivals.{download, arrival_of, responds, no_marks,
 ghost use Rattle.rules.specs.Rounds.{by_settled};
 ghost use Rattle.rules.specs.Numbers.{refusal_number};
 ghost use Rattle.rules.specs.Held.{view_rows, TidyRows, view_arrival, stored_arrival};
-ghost use Rattle.arrivals.specs.Whom.{Registered, IsForOn};
+ghost use Rattle.arrivals.specs.Whom.{Registered, IsForOn, IsForEnvelope};
 ghost use Rattle.arrivals.specs.Rounds.{stored_round, leaving};
 ghost use Rattle.arrivals.specs.Answers.{answering, Begins};
 
@@ -102,7 +102,8 @@ pub fn whom(
     polls: [u16; Roll::APPLETS],
 ) -> u8
     requires { TidyRows rows }
-    ensures { IsForOn (view_rows rows) registered bank.owner control polls (view_arrival a) result }
+    ensures arrived { IsForOn (view_rows rows) registered bank.owner control polls (view_arrival a) result }
+    ensures envelope { IsForEnvelope (view_rows rows) registered bank.owner control a result }
 {
     let kind = a.kind;
     let number = a.number;
@@ -136,17 +137,12 @@ pub fn no_round() -> Round
     }
 }
 
-// The round after an arrival: those of the present ones whom it is for wait; a refused arrival leaves the round.
-pub fn opened(
-    refusal: Result<(), Refused>,
-    round: Round,
-    arrived: Arrived,
-    whom: u8,
-    present: u8,
-) -> Round
-    ensures { result ≡ (if refusal_number refusal == 0 then record { «open» = true; arrived = arrived; waiting = set_both whom present } else round) }
+// The round after an arrival, by the refusal's number: those of the present ones whom it is for wait; a refused arrival leaves the round.
+// It and `answered` take every number, as docs/PROMISES.md names them; `round_after` and `marked` call them.
+pub fn opened(refusal: u8, round: Round, arrived: Arrived, whom: u8, present: u8) -> Round
+    ensures { result ≡ (if refusal == 0 then record { «open» = true; arrived = arrived; waiting = set_both whom present } else round) }
 {
-    if refusal.is_ok() {
+    if refusal == 0 {
         let waiting = sets::both(whom, present);
         return Round {
             open: true,
@@ -155,6 +151,22 @@ pub fn opened(
         };
     }
     round
+}
+
+// The round after an arrival, the same by its refusal.
+pub fn round_after(
+    refusal: Result<(), Refused>,
+    round: Round,
+    arrived: Arrived,
+    whom: u8,
+    present: u8,
+) -> Round
+    ensures { result ≡ (if refusal_number refusal == 0 then record { «open» = true; arrived = arrived; waiting = set_both whom present } else round) }
+{
+    match refusal {
+        Ok(()) => opened(0, round, arrived, whom, present),
+        Err(_) => round,
+    }
 }
 
 // The round after a turn: the one named leaves it, and where nobody is named it ends.
@@ -224,17 +236,28 @@ pub fn envelope_marks(outstanding: bool, e: Result<Envelope, Malformed>) -> Mark
     }
 }
 
+// The answer by the refusal's number: the marks, of which there are none with a refusal.
+#[tactic(auto, unfolding(rules::specs::Held::stored_answer))]
+pub fn answered(refusal: u8, marks: Marks) -> Answer
+    ensures { result ≡ answering refusal marks }
+{
+    match refusal {
+        0 => Answer {
+            marks,
+            ..answers::of_refusal(0)
+        },
+        _ => answers::of_refusal(refusal),
+    }
+}
+
 // The answer: the refusal, or the marks.
 #[tactic(auto, unfolding(rules::specs::Held::stored_answer, rules::specs::Numbers::refusal_number))]
-pub fn answered(given: Result<Marks, Refused>) -> Answer
+pub fn marked(given: Result<Marks, Refused>) -> Answer
     ensures { result ≡ answering (refusal_number given) (result_unwrap_or given no_marks) }
 {
     match given {
-        Ok(marks) => Answer {
-            marks,
-            ..answers::of_refusal(Ok(()))
-        },
-        Err(refusal) => answers::of_refusal(Err(refusal)),
+        Ok(marks) => answered(0, marks),
+        Err(refusal) => answers::refusal(Err(refusal)),
     }
 }
 

@@ -2,12 +2,13 @@
 -- Assumes nothing.
 use Prim.Native.Nat.{ℕ, ◌+◌, ◌≤◌, ◌<◌}
 use native.Mathlib.Omega.{arith}
-use mathlib.Core.Path.{◌≡◌, refl, ap, ◌∙◌}
+use mathlib.Core.Path.{◌≡◌, refl, sym, ap, ◌∙◌}
 use mathlib.Core.Bool.{Bool}
 use mathlib.Core.List.{List, [], ◌∷◌, ◌++◌}
-use lib.ListN.{length, drop, length-append}
+use lib.ListN.{length, take, drop, length-append}
 use Rattle.std.specs.Prelude.{if◌then◌else◌}
 use Rattle.lists.specs.Wrote.{Wrote, put_at}
+use Rattle.lists.proofs.Padded.{length-padded, take-padded}
 use Rattle.lists.proofs.Writing.{wrote_none}
 use Rattle.rules.specs.declared.Rows.{Rows}
 use Rattle.rules.specs.declared.Due.{Due}
@@ -18,7 +19,8 @@ use Rattle.rules.proofs.Listed.{length_most}
 use Rattle.commands.specs.Fits.{Fits, shown_of}
 use Rattle.commands.proofs.Lines.{rows_under}
 use Rattle.commands.proofs.Whole.{menu-most, duration-length}
-use Rattle.events_shown.specs.Listed.{codes_from}
+use Rattle.events_shown.specs.declared.Codes.{Codes}
+use Rattle.events_shown.specs.Listed.{codes_from, codes_of}
 use Rattle.events_shown.proofs.Listed.{few-codes}
 use Rattle.polling.specs.Polls.{interval_of}
 
@@ -37,13 +39,28 @@ events-most l h =
     let v = detail_bytes 5 0 ++ 0x99 ∷ length l ∷ l in
     omega (arith, length-append (0xD0 ∷ length_bytes (length v)) v, length_most (length v))
 
-module _ (p : ℕ → Bool) {k : List ℕ} (is : k ≡ codes_from p first_download codes) where
-  codes-few : length k ≤ 13
-  unfolding codes
-  codes-few = omega (arith, ap length is, few-codes p first_download codes)
+module _ (p : ℕ → Bool) {k : Codes} (is : k ≡ codes_of (codes_from p first_download codes)) {n : ℕ} (many : n ≡ k.count) where
+  abbrev l : List ℕ
+  l = codes_from p first_download codes
 
-  pub codes-wrote : {b x : List ℕ} {n : ℕ} → Wrote b 0 (event_bytes k) x n → Wrote b 0 (event_bytes (codes_from p first_download codes)) x n × (n < 256)
-  codes-wrote w = (rw is at w, omega (arith, w.next, events-most k codes-few))
+  few : length l ≤ 13
+  unfolding codes
+  few = few-codes p first_download codes
+
+  taken : take n k.at ≡ l
+  unfolding codes_of
+  taken = rw many (ap (λ (x : Codes). take x.count x.at) is ∙ take-padded 13 0 l)
+
+  pub codes-room : n ≤ length k.at
+  unfolding codes_of
+  codes-room = omega (arith, ap (λ (x : Codes). x.count) is, ap (λ (x : Codes). length x.at) is, few, length-padded 13 0 l few)
+
+  pub codes-count : n ≡ length (take n k.at)
+  unfolding codes_of
+  codes-count = many ∙ ap (λ (x : Codes). x.count) is ∙ ap length (sym taken)
+
+  pub codes-wrote : {b x : List ℕ} {m : ℕ} → Wrote b 0 (event_bytes (take n k.at)) x m → Wrote b 0 (event_bytes l) x m × (m < 256)
+  codes-wrote w = let v = rw taken at w in (v, omega (arith, v.next, events-most l few))
 
 -- POLL INTERVAL
 interval-most : (s : ℕ) → length (interval_bytes s) ≡ 15

@@ -26,10 +26,10 @@ impl Card {
         let whom = registered[WAITING];
         let arrived = arrivals::event_at(Kind::HANDLER_AVAILABLE);
         let round = left.round;
-        let opened = arrivals::opened(refusal, round, arrived, whom, left.roll.present);
+        let opened = arrivals::round_after(refusal, round, arrived, whom, left.roll.present);
         left.round = opened;
         let marks = arrivals::other_marks(left.desk.outstanding);
-        let answer = arrivals::answered(refusal.and(Ok(marks)));
+        let answer = arrivals::marked(refusal.and(Ok(marks)));
         Reply { card: left, answer }
     }
 
@@ -45,10 +45,10 @@ impl Card {
         let whom = registered[PROFILED];
         let arrived = arrivals::event_at(Kind::PROFILE_DOWNLOAD);
         let round = left.round;
-        let opened = arrivals::opened(refusal, round, arrived, whom, left.roll.present);
+        let opened = arrivals::round_after(refusal, round, arrived, whom, left.roll.present);
         left.round = opened;
         let marks = arrivals::other_marks(false);
-        let answer = arrivals::answered(refusal.and(Ok(marks)));
+        let answer = arrivals::marked(refusal.and(Ok(marks)));
         let rows = left.rows;
         let menu = menu_shown::has_shown_row(rows, left.selectable);
         let events = events_shown::any_listened(registered, left.selectable);
@@ -88,10 +88,10 @@ impl Card {
         let polls = left.polls;
         let whom = arrivals::whom(arrived, rows, registered, bank, left.control, polls);
         let round = left.round;
-        let opened = arrivals::opened(refusal, round, arrived, whom, left.roll.present);
+        let opened = arrivals::round_after(refusal, round, arrived, whom, left.roll.present);
         left.round = opened;
         let marks = arrivals::envelope_marks(left.desk.outstanding, e);
-        let answer = arrivals::answered(refusal.and(Ok(marks)));
+        let answer = arrivals::marked(refusal.and(Ok(marks)));
         Reply { card: left, answer }
     }
 
@@ -108,10 +108,10 @@ impl Card {
             number: 0,
         };
         let round = left.round;
-        let opened = arrivals::opened(Ok(()), round, arrived, whom, left.roll.present);
+        let opened = arrivals::round_after(Ok(()), round, arrived, whom, left.roll.present);
         left.round = opened;
         let marks = arrivals::other_marks(left.desk.outstanding);
-        let answer = arrivals::answered(Ok(marks));
+        let answer = arrivals::marked(Ok(marks));
         Reply { card: left, answer }
     }
 
@@ -138,7 +138,7 @@ impl Card {
         registered[WAITING] = rest;
         left.registered = registered;
         left.round = turned;
-        let answer = answers::of_called(refusal.and(Ok(named)));
+        let answer = answers::called(refusal.and(Ok(named)));
         Reply { card: left, answer }
     }
 }

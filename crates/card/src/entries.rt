@@ -36,7 +36,7 @@ impl Card {
             left.rows = next;
             left.desk.due.menu = due;
         }
-        let answer = answers::of_number(refusal.and(Ok(identifier)));
+        let answer = answers::number(refusal.and(Ok(identifier)));
         Reply { card: left, answer }
     }
 
@@ -58,7 +58,7 @@ impl Card {
         left.rows = next;
         left.desk.due.menu = due;
         let refusal = refusals::change_refusal(there, worded.its, fits);
-        let answer = answers::of_refusal(refusal);
+        let answer = answers::refusal(refusal);
         Reply { card: left, answer }
     }
 
@@ -93,7 +93,7 @@ impl Card {
         left.rows = next;
         left.desk.due.menu = due;
         let refusal = refusals::row_refusal(there, touched.its);
-        let answer = answers::of_refusal(refusal);
+        let answer = answers::refusal(refusal);
         Reply { card: left, answer }
     }
 }

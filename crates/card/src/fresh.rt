@@ -67,7 +67,7 @@ impl Card {
         let refusal = refusals::title_refusal(title);
         let n = kept_length(refusal, title.len());
         let card = made(&title[..n]);
-        let answer = answers::of_refusal(refusal);
+        let answer = answers::refusal(refusal);
         Reply { card, answer }
     }
 }

@@ -17,6 +17,7 @@ ghost use Rattle.card.specs.Replies.{Replies, Fills};
 ghost use Rattle.card.specs.Turns.{first_due, rest_due};
 
 use crate::{Card, Reply};
+use events_shown::Codes;
 use polling::Requests;
 use rules::{Desk, Due, Kind, Refused, Roll, Rows};
 
@@ -68,8 +69,8 @@ fn put_events(buf: &mut [u8], registered: [u8; Kind::EVENTS], selectable: u8) ->
     requires { 256 ≤ length buf.old }
     ensures { Wrote buf.old 0 (event_bytes (codes_from (is_listened registered selectable) first_download codes)) buf.new result × (result < 256) }
 {
-    let shown = events_shown::shown_codes(registered, selectable);
-    commands::write_events(buf, &shown)
+    let Codes { at, count } = events_shown::shown_codes(registered, selectable);
+    commands::write_events(buf, &at[..usize::from(count)])
 }
 
 // Writes POLL INTERVAL with the system interval; how many bytes it has.
@@ -117,7 +118,7 @@ impl Card {
         } else {
             0
         };
-        let answer = answers::of_number(refusal.and(Ok(n as u8)));
+        let answer = answers::number(refusal.and(Ok(n as u8)));
         Reply { card: left, answer }
     }
 }

@@ -23,7 +23,7 @@ impl Card {
             left.roll = next;
             left.selectable = selectable;
         }
-        let answer = answers::of_refusal(refusal);
+        let answer = answers::refusal(refusal);
         Reply { card: left, answer }
     }
 }

@@ -80,7 +80,7 @@ impl Card {
             left.selectable = sets::switched(was, applet, ON);
         }
         let refusal = absent_refusal(there);
-        let answer = answers::of_refusal(refusal);
+        let answer = answers::refusal(refusal);
         Reply { card: left, answer }
     }
 

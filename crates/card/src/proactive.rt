@@ -34,7 +34,7 @@ impl Card {
         // judged first, and copied then: the other way round the card is copied once more, 600 bytes of stack for 72
         let mut left = self;
         left.desk.outstanding = is;
-        let answer = answers::of_refusal(refusal);
+        let answer = answers::refusal(refusal);
         Reply { card: left, answer }
     }
 
@@ -48,7 +48,7 @@ impl Card {
         let refusal = refusals::response_refusal(was);
         let is = outstanding_after(refusal, was, false);
         left.desk.outstanding = is;
-        let answer = answers::of_refusal(refusal);
+        let answer = answers::refusal(refusal);
         Reply { card: left, answer }
     }
 }

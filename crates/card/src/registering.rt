@@ -98,7 +98,7 @@ impl Card {
         left.registered = registered;
         left.control = control;
         left.desk.due.events = events_due;
-        let answer = answers::of_refusal(refusal);
+        let answer = answers::refusal(refusal);
         Reply { card: left, answer }
     }
 
@@ -115,7 +115,7 @@ impl Card {
         let registered = self.registered;
         let set = registered[p];
         let says = is_listed(place, set, self.control, applet);
-        let answer = answers::of_yes_or_no(refusal.and(Ok(says)));
+        let answer = answers::yes_or_no(refusal.and(Ok(says)));
         Reply { card: self, answer }
     }
 }

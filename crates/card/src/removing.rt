@@ -35,7 +35,7 @@ impl Card {
             left.rows = next_rows;
             left.round.waiting = waiting;
         }
-        let answer = answers::of_refusal(absent_refusal(there));
+        let answer = answers::refusal(absent_refusal(there));
         Reply { card: left, answer }
     }
 }

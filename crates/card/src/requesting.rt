@@ -33,7 +33,7 @@ impl Card {
             left.desk.due.interval = polling.interval;
             left.desk.due.off = polling.off;
         }
-        let answer = answers::of_refusal(refusal);
+        let answer = answers::refusal(refusal);
         Reply { card: left, answer }
     }
 }

@@ -3,7 +3,7 @@
 ghost use Rattle.std.specs.Prelude.{◌+◌, ◌<◌, ◌≤◌, length};
 
 use std::io::Write;
-use std::{fmt, io};
+use telling::put;
 use texts::byte_at;
 
 // How a byte is changed.
@@ -50,12 +50,6 @@ impl Part {
 struct Tried {
     count: u64,
     refused: u64,
-}
-
-impl fmt::Display for Tried {
-    fn fmt<W: fmt::Write>(&self, f: &mut fmt::Formatter<W>) -> fmt::Result {
-        write!(f, "{} of {} refused", self.refused, self.count)
-    }
 }
 
 impl Tried {
@@ -150,52 +144,57 @@ fn items_at(s: &[u8]) -> usize
 }
 
 // Writes how many were tried and refused of a kind of damage.
-fn told(to: &mut impl Write, kind: &str, tried: Tried) -> io::Result<()> {
-    writeln!(to, "  {kind}: {tried}")
+fn told(to: &mut impl Write, kind: &str, tried: Tried) {
+    put(to, "  ");
+    put(to, kind);
+    put(to, tried.refused);
+    put(to, " of ");
+    put(to, tried.count);
+    put(to, " refused\n");
 }
 
 // The items, where there are any.
-fn tell_items(to: &mut impl Write, s: &mut [u8]) -> io::Result<()> {
+fn tell_items(to: &mut impl Write, s: &mut [u8]) {
     let items = items_at(s);
     if byte_at(s, items + 1) == 0 {
-        return Ok(());
+        return;
     }
     let first = byte_at(s, items + 2);
     let second = past(s, items);
     told(
         to,
-        "identifier twice",
+        "identifier twice: ",
         each_element(s, second, Part::Value, Way::To(first)),
-    )?;
+    );
     told(
         to,
-        "item with length 0",
+        "item with length 0: ",
         each_element(s, items, Part::Length, Way::To(0)),
-    )
+    );
 }
 
 // Every kind of damage that leaves the command its size.
-fn tell_kinds(to: &mut impl Write, s: &mut [u8]) -> io::Result<()> {
-    told(to, "length one more", each_length(s, Way::Up))?;
-    told(to, "length one less", each_length(s, Way::Down))?;
+fn tell_kinds(to: &mut impl Write, s: &mut [u8]) {
+    told(to, "length one more: ", each_length(s, Way::Up));
+    told(to, "length one less: ", each_length(s, Way::Down));
     let value = value_at(s);
     told(
         to,
-        "flag missing",
+        "flag missing: ",
         each_element(s, value, Part::Tag, Way::Turned(0x80)),
-    )?;
-    tell_items(to, s)?;
-    told(to, "lowest bit turned", each_byte(s, Way::Turned(1)))?;
-    told(to, "highest bit turned", each_byte(s, Way::Turned(0x80)))
+    );
+    tell_items(to, s);
+    told(to, "lowest bit turned: ", each_byte(s, Way::Turned(1)));
+    told(to, "highest bit turned: ", each_byte(s, Way::Turned(0x80)));
 }
 
 // Every kind of damage to the first n bytes.
-pub fn tell(to: &mut impl Write, out: &mut [u8], n: usize) -> io::Result<()>
+pub fn tell(to: &mut impl Write, out: &mut [u8], n: usize)
     requires { (1 ≤ n) × (n < length out.old) }
 {
     let less = n - 1;
     let more = n + 1;
-    told(to, "a byte less", as_it_is(&out[..less]))?;
-    told(to, "a byte behind", behind(&mut out[..more], n))?;
-    tell_kinds(to, &mut out[..n])
+    told(to, "a byte less: ", as_it_is(&out[..less]));
+    told(to, "a byte behind: ", behind(&mut out[..more], n));
+    tell_kinds(to, &mut out[..n]);
 }

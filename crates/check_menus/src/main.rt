@@ -1,5 +1,6 @@
 // Menus that a card hands out, and items written by hand, read back: a line for each with the refusal, the title, the help mark and the items.
 // Below a handed-out menu stands, for each kind of damage, how many commands so damaged the reader refuses.
+// Each piece of a line is written whatever became of the one before.
 #![tactic(auto)]
 
 mod damage;
@@ -10,7 +11,7 @@ ghost use Rattle.card.specs.View.{Left};
 use card::Card;
 use rules::{Pair, Request};
 use std::io::Write;
-use std::{fmt, io};
+use telling::put;
 use texts::first;
 
 // Menus written by hand.
@@ -61,32 +62,32 @@ const WRITTEN: [(&str, &[u8]); 11] = [
     ),
 ];
 
-// Bytes in lower hex.
-#[derive(Clone, Copy)]
-struct Hex<'a>(&'a [u8]);
+fn put_byte(to: &mut impl Write, b: u8) {
+    put(to, format_args!("{b:02x}"));
+}
 
-impl fmt::Display for Hex<'_> {
-    fn fmt<W: fmt::Write>(&self, f: &mut fmt::Formatter<W>) -> fmt::Result {
-        for b in self.0 {
-            write!(f, "{b:02x}")?;
-        }
-        Ok(())
+fn put_bytes(to: &mut impl Write, s: &[u8]) {
+    for b in s {
+        put_byte(to, *b);
     }
 }
 
 // What the reader says of the bytes.
-fn say(to: &mut impl Write, s: &[u8]) -> io::Result<()> {
+fn say(to: &mut impl Write, s: &[u8]) {
     let menu = menu_reader::read_menu(s);
-    let title = Hex(first(&menu.title, menu.title_len as usize));
-    write!(to, "{:02x} {title}", menu.refusal)?;
+    put_byte(to, menu.refusal);
+    put(to, " ");
+    put_bytes(to, first(&menu.title, menu.title_len as usize));
     if menu.help {
-        write!(to, " help")?;
+        put(to, " help");
     }
     for item in menu.at.iter().take(menu.count as usize) {
-        let text = Hex(first(&item.text, item.len as usize));
-        write!(to, " {:02x}:{text}", item.identifier)?;
+        put(to, " ");
+        put_byte(to, item.identifier);
+        put(to, ":");
+        put_bytes(to, first(&item.text, item.len as usize));
     }
-    writeln!(to)
+    put(to, "\n");
 }
 
 // Three applets with four entries each.
@@ -146,58 +147,55 @@ fn handed(card: Card, out: &mut [u8]) -> usize
 }
 
 // The command that is due as it is, and damaged.
-fn tell(to: &mut impl Write, card: Card) -> io::Result<()>
+fn tell(to: &mut impl Write, card: Card)
     requires { Left card }
 {
     let mut out = [0u8; 256];
     let n = handed(card, &mut out);
-    write!(to, "menu of {n} bytes: ")?;
-    say(to, &out[..n])?;
+    put(to, "menu of ");
+    put(to, n);
+    put(to, " bytes: ");
+    say(to, &out[..n]);
     if 0 < n {
-        damage::tell(to, &mut out, n)?;
+        damage::tell(to, &mut out, n);
     }
-    Ok(())
 }
 
 // A menu of so many rows, with so many bytes of a title and of a text.
-fn try_menu(to: &mut impl Write, titled: usize, rows: u8, each: usize) -> io::Result<()>
+fn try_menu(to: &mut impl Write, titled: usize, rows: u8, each: usize)
     requires { (titled ≤ 20) × (each ≤ 15) }
 {
     let title = *b"ABCDEFGHIJKLMNOPQRST";
     let text = *b"abcdefghijklmno";
-    tell(to, begun(&title[..titled], rows, &text[..each]))
+    tell(to, begun(&title[..titled], rows, &text[..each]));
 }
 
 // A menu of no rows: the only row goes while the menu is due.
-fn try_none(to: &mut impl Write, title: &[u8]) -> io::Result<()> {
-    tell(to, emptied(begun(title, 1, title)))
+fn try_none(to: &mut impl Write, title: &[u8]) {
+    tell(to, emptied(begun(title, 1, title)));
 }
 
-fn try_handed_out(to: &mut impl Write) -> io::Result<()> {
-    try_menu(to, 0, 1, 1)?;
-    try_menu(to, 20, 1, 15)?;
-    try_menu(to, 0, 12, 1)?;
-    try_menu(to, 20, 12, 15)?;
-    try_menu(to, 8, 6, 15)?;
-    try_menu(to, 9, 6, 15)?;
-    try_none(to, b"A")?;
-    try_none(to, b"ABCDEFGHIJKLMNO")
+fn try_handed_out(to: &mut impl Write) {
+    try_menu(to, 0, 1, 1);
+    try_menu(to, 20, 1, 15);
+    try_menu(to, 0, 12, 1);
+    try_menu(to, 20, 12, 15);
+    try_menu(to, 8, 6, 15);
+    try_menu(to, 9, 6, 15);
+    try_none(to, b"A");
+    try_none(to, b"ABCDEFGHIJKLMNO");
 }
 
-fn try_written(to: &mut impl Write) -> io::Result<()> {
+fn try_written(to: &mut impl Write) {
     for (name, menu) in WRITTEN {
-        write!(to, "{name}: ")?;
-        say(to, menu)?;
+        put(to, name);
+        put(to, ": ");
+        say(to, menu);
     }
-    Ok(())
 }
 
-fn try_all(to: &mut impl Write) -> io::Result<()> {
-    try_handed_out(to)?;
-    try_written(to)
-}
-
-// Where nobody takes its lines, it ends.
 fn main(rt: HostRuntime) {
-    let _ = try_all(&mut rt.stdout());
+    let mut out = rt.stdout();
+    try_handed_out(&mut out);
+    try_written(&mut out);
 }

@@ -1,5 +1,6 @@
 // Reads lines `name: letter bytes` in upper hexadecimal and writes behind each name what the readers make of the bytes: e envelope, c command,
 // o outer element, f search (tag and occurrence, two bytes each, and the run), v event value (two bytes), d download code.
+// Each piece of a line is written whatever became of the one before.
 #![tactic(auto)]
 
 ghost use Rattle.std.specs.Prelude.{◌≤◌, length};
@@ -7,7 +8,7 @@ ghost use Rattle.std.specs.Prelude.{◌≤◌, length};
 use floor_orders::values::signed_of;
 use rules::{Command, Envelope, Kind, Malformed, Outer, Span};
 use std::io::{Read, Write};
-use std::{fmt, io};
+use telling::put;
 use texts::{find, first};
 
 // Reads until the buffer is full, the input ends or a read fails; how many bytes stand at its front.
@@ -47,69 +48,89 @@ fn unhex<'a>(text: &[u8], bytes: &'a mut [u8]) -> &'a [u8] {
     first(bytes, triples.len())
 }
 
-// Bytes in lower hex, or a dash for none.
-#[derive(Clone, Copy)]
-struct Hex<'a>(&'a [u8]);
+fn put_byte(to: &mut impl Write, b: u8) {
+    put(to, format_args!("{b:02x}"));
+}
 
-impl fmt::Display for Hex<'_> {
-    fn fmt<W: fmt::Write>(&self, f: &mut fmt::Formatter<W>) -> fmt::Result {
-        if self.0.is_empty() {
-            return write!(f, "-");
-        }
-        for b in self.0 {
-            write!(f, "{b:02x}")?;
-        }
-        Ok(())
+// Bytes, or a dash for none.
+fn put_bytes(to: &mut impl Write, s: &[u8]) {
+    if s.is_empty() {
+        put(to, "-");
+    }
+    for b in s {
+        put_byte(to, *b);
     }
 }
 
-fn say_taken(to: &mut impl Write, envelope: Envelope) -> io::Result<()> {
-    match envelope {
-        Envelope::Menu { item, help: false } => write!(to, "menu {item:02x}"),
-        Envelope::Menu { item, help: true } => write!(to, "help {item:02x}"),
-        Envelope::Call => write!(to, "call"),
-        Envelope::Download { code } => write!(to, "download {code:02x}"),
-        Envelope::Expiry { timer } => write!(to, "expiry {timer:02x}"),
-        Envelope::Unrecognized => write!(to, "unrecognized"),
+// A word, and the byte that goes with it, if one does.
+fn put_named(to: &mut impl Write, word: &str, byte: Option<u8>) {
+    put(to, word);
+    if let Some(b) = byte {
+        put_byte(to, b);
     }
 }
 
-fn say_envelope(to: &mut impl Write, s: &[u8]) -> io::Result<()> {
-    let content = Hex(envelopes::content(s));
-    match envelopes::read_envelope(s) {
-        Ok(envelope) => {
-            say_taken(to, envelope)?;
-            write!(to, ", taken, content {content}")
-        }
-        Err(Malformed) => write!(to, "malformed, refused, content {content}"),
-    }
+fn put_place(to: &mut impl Write, word: &str, n: usize) {
+    put(to, word);
+    put(to, format_args!("{n:04x}"));
 }
 
-fn say_command(to: &mut impl Write, s: &[u8]) -> io::Result<()> {
-    match envelopes::read_command(s) {
-        Ok(Command::Plain { kind }) => write!(to, "type {kind:02x}"),
-        Ok(Command::Timer { timer }) => write!(to, "timer {timer:02x}"),
-        Err(Malformed) => write!(to, "malformed"),
-    }
-}
-
-fn say_outer(to: &mut impl Write, s: &[u8]) -> io::Result<()> {
-    match tlv::outer(s) {
-        Ok(Outer { tag, start }) => write!(to, "tag {tag:02x}, value at {start:04x}"),
-        Err(Malformed) => write!(to, "malformed"),
-    }
-}
-
-fn say_search(to: &mut impl Write, s: &[u8], tag: u16, occurrence: usize) -> io::Result<()> {
-    let value = Hex(tlv::find(s, tag, occurrence));
-    if tlv::has(s, tag, occurrence) {
-        write!(to, "yes {value}")?;
+fn say_envelope(to: &mut impl Write, s: &[u8]) {
+    let envelope = envelopes::read_envelope(s);
+    let (word, byte) = match envelope {
+        Ok(Envelope::Menu { item, help: false }) => ("menu ", Some(item)),
+        Ok(Envelope::Menu { item, help: true }) => ("help ", Some(item)),
+        Ok(Envelope::Call) => ("call", None),
+        Ok(Envelope::Download { code }) => ("download ", Some(code)),
+        Ok(Envelope::Expiry { timer }) => ("expiry ", Some(timer)),
+        Ok(Envelope::Unrecognized) => ("unrecognized", None),
+        Err(Malformed) => ("malformed", None),
+    };
+    put_named(to, word, byte);
+    if envelope.is_ok() {
+        put(to, ", taken, content ");
     } else {
-        write!(to, "no {value}")?;
+        put(to, ", refused, content ");
     }
+    put_bytes(to, envelopes::content(s));
+}
+
+fn say_command(to: &mut impl Write, s: &[u8]) {
+    let (word, byte) = match envelopes::read_command(s) {
+        Ok(Command::Plain { kind }) => ("type ", Some(kind)),
+        Ok(Command::Timer { timer }) => ("timer ", Some(timer)),
+        Err(Malformed) => ("malformed", None),
+    };
+    put_named(to, word, byte);
+}
+
+fn say_outer(to: &mut impl Write, s: &[u8]) {
+    match tlv::outer(s) {
+        Ok(Outer { tag, start }) => {
+            put_named(to, "tag ", Some(tag));
+            put_place(to, ", value at ", start);
+        }
+        Err(Malformed) => {
+            put(to, "malformed");
+        }
+    }
+}
+
+fn say_search(to: &mut impl Write, s: &[u8], tag: u16, occurrence: usize) {
+    if tlv::has(s, tag, occurrence) {
+        put(to, "yes ");
+    } else {
+        put(to, "no ");
+    }
+    put_bytes(to, tlv::find(s, tag, occurrence));
     match tlv::locate(s, tag, occurrence) {
-        Some(Span { start, len }) => write!(to, ", at {start:04x} length {len:04x}"),
-        None => write!(to, ", nothing"),
+        Some(Span { start, len }) => {
+            put_place(to, ", at ", start);
+            put_place(to, " length ", len);
+        }
+        None => {
+            put(to, ", nothing");
+        }
     }
 }
 
@@ -144,59 +165,55 @@ fn name(kind: Kind) -> &'static str {
 }
 
 // The kind, the refusal that set event gives for it, and whether call control's owner is asked for.
-fn say_kind(to: &mut impl Write, kind: Kind) -> io::Result<()> {
-    let name = name(kind);
+fn say_kind(to: &mut impl Write, kind: Kind) {
     let refusal = match events::refusal_of(kind) {
         Ok(()) => 0,
         Err(refused) => refused.number(),
     };
-    let owner = if events::is_control(kind) {
-        ", one owner"
-    } else {
-        ""
-    };
-    write!(to, "{name}, refusal {refusal:02x}{owner}")
+    put(to, name(kind));
+    put_named(to, ", refusal ", Some(refusal));
+    if events::is_control(kind) {
+        put(to, ", one owner");
+    }
 }
 
-fn say(to: &mut impl Write, letter: u8, s: &[u8]) -> io::Result<()> {
+fn say(to: &mut impl Write, letter: u8, s: &[u8]) {
     match (letter, s) {
         (b'e', _) => say_envelope(to, s),
         (b'c', _) => say_command(to, s),
         (b'o', _) => say_outer(to, s),
         (b'd', [code, ..]) => say_kind(to, events::kind_of_code(*code)),
         (b'v', [high, low, ..]) => say_kind(to, events::kind_of(signed_of(*high, *low))),
-        (b'd' | b'v', _) => Ok(()),
+        (b'd' | b'v', _) => {}
         (_, [high, low, times_high, times_low, run @ ..]) => {
             let tag = u16::from_be_bytes([*high, *low]);
             let occurrence = u16::from_be_bytes([*times_high, *times_low]);
             say_search(to, run, tag, usize::from(occurrence))
         }
-        _ => Ok(()),
+        _ => {}
     }
 }
 
 // A line without a letter is passed over.
-fn answer(to: &mut impl Write, line: &[u8]) -> io::Result<()> {
+fn answer(to: &mut impl Write, line: &[u8]) {
     let mark = find(line, 0, line.len(), b':');
     let [_, _, letter, digits @ ..] = &line[mark..] else {
-        return Ok(());
+        return;
     };
     let mut bytes = [0; 512];
-    to.write_all(&line[..mark + 2])?;
-    say(to, *letter, unhex(digits, &mut bytes))?;
-    writeln!(to)
+    let _ = to.write_all(&line[..mark + 2]);
+    say(to, *letter, unhex(digits, &mut bytes));
+    put(to, "\n");
 }
 
-fn answer_all(to: &mut impl Write, text: &[u8]) -> io::Result<()> {
+fn answer_all(to: &mut impl Write, text: &[u8]) {
     for line in text.split(|b| *b == b'\n') {
-        answer(to, line)?;
+        answer(to, line);
     }
-    Ok(())
 }
 
-// Where nobody takes its lines, it ends.
 fn main(rt: HostRuntime) {
     let mut text = [0; 65536];
     let n = read_full(&mut rt.stdin(), &mut text);
-    let _ = answer_all(&mut rt.stdout(), &text[..n]);
+    answer_all(&mut rt.stdout(), &text[..n]);
 }

@@ -8,6 +8,7 @@ ghost use Rattle.compose.specs.declared.TheConstants.{TEXT};
 use script::Stop;
 use script_line::Cause;
 use std::io::{Read, Write};
+use telling::put;
 
 // Bytes of text that are held at once, and bytes of records that are written at once.
 const TEXT: usize = 4096;
@@ -75,14 +76,21 @@ fn run<I: Read, O: Write>(
     Ok(())
 }
 
-// Says why a run ended. Where no output is taken, or no message, nothing more can be said.
+// Says why a run ended, each piece whatever became of the one before. Where no output is taken, nothing is said.
 fn complain(told: &mut impl Write, fault: Fault) {
-    let said = match fault {
-        Fault::Input => told.write_all(b"compose: standard input cannot be read\n"),
-        Fault::Line(line, cause) => writeln!(told, "compose: line {line}: {cause}"),
-        Fault::Output => Ok(()),
-    };
-    drop(said);
+    match fault {
+        Fault::Input => {
+            put(told, "compose: standard input cannot be read\n");
+        }
+        Fault::Line(line, cause) => {
+            put(told, "compose: line ");
+            put(told, line);
+            put(told, ": ");
+            put(told, cause);
+            put(told, "\n");
+        }
+        Fault::Output => {}
+    }
 }
 
 fn main(rt: HostRuntime) {

@@ -5,18 +5,19 @@ use native.Mathlib.Omega.{arith}
 use mir.Val.{Fits}
 use mir.Syntax.{w8, w64}
 use mathlib.Core.Path.{◌≡◌, refl, sym, ap, ◌∙◌, subst}
+use mathlib.Core.Bool.{Bool, true, false}
 use mathlib.Core.List.{List, [], ◌∷◌}
 use lib.ListN.{length}
 use lib.Dec.{lit≤}
-use borrow.Author.Tests.{eqb-true, leb-true, leb-false}
+use borrow.Author.Tests.{eqb-true, leb-true, leb-false, le-leb}
 use Rattle.lists.specs.Tests.{◌<?◌, ◌≤?◌}
-use Rattle.std.specs.Prelude.{◌==◌, Option, Some, None, Result, Ok, Err}
+use Rattle.std.specs.Prelude.{if◌then◌else◌, ◌==◌, Option, Some, None, Result, Ok, Err}
 use Rattle.lists.specs.Lists.{some?, in?}
 use Rattle.lists.proofs.Ifs.{if-holds}
 use Rattle.rules.specs.declared.Malformed.{Malformed}
 use Rattle.rules.specs.declared.Length.{Length}
 use Rattle.rules.specs.declared.Element.{Element}
-use Rattle.rules.specs.Bytes.{byte, tag_size, tag_number, long_length, length_at, valued, element_by, element_at}
+use Rattle.rules.specs.Bytes.{malformed, byte, tag_size, tag_number, long_length, length_at, valued, element_by, element_at}
 
 -- a tag takes one byte or three
 unfoldable SmallTag : Result ℕ Malformed → Type 0
@@ -48,6 +49,17 @@ starts-long t e q =
 pub starts-short : (t : ℕ) {size : ℕ} → tag_size t ≡ Ok size → (size ≡ 3 → ⊥) → t ≡ 0x7F → ⊥
 unfolding tag_size in? some?
 starts-short t {size} e n h = let z : ◌≡◌ {A = Result ℕ Malformed} (Ok 3) (Ok size) = sym (ap tag_size h) ∙ e in n cc
+
+-- where the bytes end with a tag, or in it, no length stands
+pub no_length
+    : (s : List ℕ) (at : ℕ) {r : Result ℕ Malformed} {size : ℕ}
+    → at < length s → r ≡ tag_size (byte s at) → r ≡ Ok size → length s ≤ at + size → Err malformed ≡ element_at s at
+unfolding element_at element_by valued length_at
+no_length s at {r} {size} h p q k = go (length s ≤? at) refl
+  where
+    go : (b : Bool) → (length s ≤? at) ≡ b → Err malformed ≡ (if b then Ok None else element_by s at (tag_size (byte s at)))
+    go true e = absurd (omega (arith, leb-true (length s) at e, h))
+    go false e = rw (sym p ∙ q, le-leb (length s) (at + size) k) refl
 
 -- what a length at a position says of where its value starts
 unfoldable LengthEnds : List ℕ → ℕ → Result Length Malformed → Type 0

@@ -74,8 +74,12 @@ pub fn element_at(s: &[u8], at: usize) -> Result<Option<Element>, Malformed>
         return Ok(None);
     }
     let size = tag_size(s[at])?;
-    let length = length_at(s, at + size)?;
+    let behind = at + size;
+    if s.len() <= behind {
+        return Err(Malformed);
+    }
     let number = tag_number(s, at, size);
+    let length = length_at(s, behind)?;
     let len = length.len as usize;
     let next = length.next + len;
     if s.len() < next {

@@ -6,10 +6,12 @@ use native.Mathlib.Numerals.{add-one}
 use mathlib.Core.Path.{◌≡◌, refl, sym, ap, ◌∙◌}
 use mathlib.Core.Bool.{Bool, true, false}
 use mathlib.Core.List.{List, [], ◌∷◌, ◌++◌, append-nil}
-use lib.ListN.{length, take, get_or}
+use lib.ListN.{length, take, get_or, set, length-append}
 use lib.Seq.{take-suc, length-take-le}
 use Rattle.std.specs.Prelude.{if◌then◌else◌}
+use Rattle.lists.specs.Lists.{padded}
 use Rattle.lists.specs.Tables.{table}
+use Rattle.lists.proofs.Padded.{push}
 use Rattle.lists.proofs.Tables.{table_at}
 use Rattle.sets.specs.Sets.{meets}
 use Rattle.rules.specs.Holds.{Tables, document}
@@ -17,7 +19,8 @@ use Rattle.rules.specs.Events.{codes}
 use Rattle.rules.specs.Commands.{listened, shown_from, shown_events}
 use Rattle.runs.specs.Sound.{SoundTables}
 use Rattle.applets.specs.ByNumber.{selectable_set, registered_set}
-use Rattle.events_shown.specs.Listed.{codes_from}
+use Rattle.events_shown.specs.declared.Codes.{Codes}
+use Rattle.events_shown.specs.Listed.{codes_from, codes_of}
 use Rattle.events_shown.specs.Turns.{is_listened}
 use Rattle.events_shown.proofs.Shown.{listened-meets}
 
@@ -41,20 +44,31 @@ few-codes p e (c ∷ l) = go (p e) (few-codes p (suc e) l)
 
 -- a loop that has gathered those of the first i codes whose places pass
 module _ (p : ℕ → Bool) (l : List ℕ) where
-  abbrev pub Gathered : (i : ℕ) (found : List ℕ) → Type 0
-  Gathered i found = found ≡ codes_from p 5 (take i l)
+  pub record Gathered (i : ℕ) (at : List ℕ) (k : ℕ) : Type 0 where
+    pub few : k ≤ i
+    pub form : at ≡ padded 13 0 (codes_from p 5 (take i l))
+    pub many : k ≡ length (codes_from p 5 (take i l))
 
   one_code : (i : ℕ) → i < length l → codes_from p 5 (take (i + 1) l) ≡ codes_from p 5 (take i l) ++ (if p (5 + i) then get_or l i 0 ∷ [] else [])
   one_code i h = rw (add-one i, take-suc l i 0 h) (codes-snoc p 5 (take i l) (get_or l i 0) (5 + i) (omega (arith, length-take-le i l (omega arith))))
 
-  pub gathered-room : (i : ℕ) {found : List ℕ} → i ≤ length l → Gathered i found → length found ≤ i
-  gathered-room i h o = omega (arith, ap length o, few-codes p 5 (take i l), length-take-le i l h)
+  pub gathered-yes : (i : ℕ) (at : List ℕ) (k : ℕ) → i < length l → k < 13 → p (5 + i) ≡ true → Gathered i at k → Gathered (i + 1) (set at k (get_or l i 0)) (k + 1)
+  gathered-yes i at k h f e o =
+      let y : codes_from p 5 (take (i + 1) l) ≡ codes_from p 5 (take i l) ++ (get_or l i 0 ∷ []) = one_code i h ∙ rw e refl in
+      record {
+        few = omega (arith, o.few);
+        form = rw y (push 13 0 (codes_from p 5 (take i l)) at k (get_or l i 0) o.form o.many f);
+        many = omega (arith, o.many, simp length-append at (ap length y));
+      }
 
-  pub gathered-yes : (i : ℕ) {found more : List ℕ} → i < length l → p (5 + i) ≡ true → more ≡ found ++ get_or l i 0 ∷ [] → Gathered i found → Gathered (i + 1) more
-  gathered-yes i h e m o = m ∙ ap (λ (k : List ℕ). k ++ get_or l i 0 ∷ []) o ∙ sym (one_code i h ∙ rw e refl)
+  pub gathered-no : (i : ℕ) (at : List ℕ) (k : ℕ) → i < length l → p (5 + i) ≡ false → Gathered i at k → Gathered (i + 1) at k
+  gathered-no i at k h e o =
+      let y : codes_from p 5 (take (i + 1) l) ≡ codes_from p 5 (take i l) = one_code i h ∙ rw e (append-nil _) in
+      record { few = omega (arith, o.few); form = rw y o.form; many = rw y o.many }
 
-  pub gathered-no : (i : ℕ) {found : List ℕ} → i < length l → p (5 + i) ≡ false → Gathered i found → Gathered (i + 1) found
-  gathered-no i h e o = o ∙ sym (one_code i h ∙ rw e (append-nil _))
+pub gathered-all : (p : ℕ → Bool) (at : List ℕ) (k : ℕ) → Gathered p codes 13 at k → ◌≡◌ {A = Codes} (record { at = at; count = k }) (codes_of (codes_from p 5 codes))
+unfolding codes_of codes
+gathered-all p at k o = rw (o.form, o.many) refl
 
 -- WHAT IS SHOWN, by the sets
 module _ (t : Tables) (sound : SoundTables t) (b : t.bounds ≡ document) {g : List ℕ} (is : g ≡ table 20 (registered_set t.applets)) where

@@ -1,3 +1,3 @@
--- The event list, and what changes it.
+-- The event list, what changes it, and the struct of its codes.
 pub mod Turns
 pub mod Listed

@@ -6,10 +6,9 @@ ghost use Rattle.std.specs.Prelude.{◌≡◌, not};
 ghost use Rattle.std.specs.Bool.{beq};
 ghost use Rattle.sets.specs.Sets.{meets};
 ghost use Rattle.rules.specs.Events.{codes, first_download};
-ghost use Rattle.events_shown.specs.Listed.{codes_from};
+ghost use Rattle.events_shown.specs.Listed.{codes_from, codes_of};
 ghost use Rattle.events_shown.specs.Turns.{any_code, events_turn, code_turns, is_listened};
 
-use arrayvec::ArrayVec;
 use rules::Kind;
 
 // The places of the first download and of the last.
@@ -17,8 +16,17 @@ const FIRST: usize = Kind::MT_CALL as usize;
 
 const LAST: usize = Kind::BROWSING_STATUS as usize;
 
-// How many download codes there are.
-pub const CODES: usize = 13;
+// The codes of the shown events, ascending, and 0 behind them. It is no ArrayVec, which is not Copy, and whose clauses say its items alone.
+#[derive(Clone, Copy)]
+pub struct Codes {
+    pub at: [u8; Codes::MOST],
+    pub count: u8,
+}
+
+impl Codes {
+    // How many download codes there are.
+    pub const MOST: usize = 13;
+}
 
 // Whether a set meets one of two sets and not the other.
 fn turns(set: u8, was: u8, is: u8) -> bool
@@ -52,17 +60,21 @@ pub fn codes_turn(registered: [u8; Kind::EVENTS], was: u8, is: u8) -> bool
     any
 }
 
-// The codes of the events for which the set of those registered and that of the selectable applets meet, ascending.
-pub fn shown_codes(registered: [u8; Kind::EVENTS], selectable: u8) -> ArrayVec<u8, CODES>
-    ensures { result.items ≡ codes_from (is_listened registered selectable) first_download codes }
+// The codes of the events for which the set of those registered and that of the selectable applets meet.
+pub fn shown_codes(registered: [u8; Kind::EVENTS], selectable: u8) -> Codes
+    ensures { result ≡ codes_of (codes_from (is_listened registered selectable) first_download codes) }
 {
-    let codes: [u8; CODES] = [
+    let codes: [u8; Codes::MOST] = [
         0x00, 0x01, 0x02, 0x03, 0x04, 0x05, 0x06, 0x07, 0x08, 0x0B, 0x0C, 0x0E, 0x0F,
     ];
-    let mut shown = ArrayVec::new();
+    let mut shown = Codes {
+        at: [0; Codes::MOST],
+        count: 0,
+    };
     for (i, code) in codes.iter().enumerate() {
         if sets::meet(registered[FIRST + i], selectable) {
-            shown.push(*code);
+            shown.at[usize::from(shown.count)] = *code;
+            shown.count += 1;
         }
     }
     shown

@@ -26,7 +26,7 @@ pub struct AfterPiece {
 fn no_call(card: Card) -> Reply
     ensures { result ≡ record { card = card; answer = stored_answer accepted } }
 {
-    let answer = answers::of_refusal(Ok(()));
+    let answer = answers::refusal(Ok(()));
     Reply { card, answer }
 }
 

@@ -5,7 +5,7 @@ use native.Mathlib.Omega.{arith}
 use native.Mathlib.Numerals.{add-one}
 use mathlib.Core.Path.{◌≡◌, refl, sym, ap, ap₂, ◌∙◌}
 use mathlib.Core.Bool.{Bool, true, false, ◌||◌}
-use mathlib.Core.List.{List, [], ◌∷◌}
+use mathlib.Core.List.{List, [], ◌∷◌, map}
 use lib.Bits.{bit_or}
 use lib.Count.{count_trailing_zeros}
 use lib.ListN.{length, take, get_or}
@@ -16,14 +16,15 @@ use Rattle.lists.specs.Lists.{some?}
 use Rattle.lists.specs.Bits.{bits_of}
 use Rattle.lists.proofs.Bits.{trailing-more, bits-or, bits-alike, bits_none, bits-one, bits-lt}
 use Rattle.lists.proofs.Firsts.{some-append}
+use Rattle.lists.proofs.Mapped.{map-length, map-some}
 use Rattle.lists.proofs.Truth.{or-false}
 use Rattle.rules.specs.declared.Row as held
 use Rattle.rules.specs.declared.Rows.{Rows}
 use Rattle.rules.specs.Holds.{Row}
 use Rattle.rules.specs.Rows.{has_identifier, in_use, smallest_free, identifier_for}
-use Rattle.rules.specs.Held.{view_row, view_rows, TidyRows}
+use Rattle.rules.specs.Held.{view_row, view_rows}
 use Rattle.rules.proofs.Listed.{free_from, smallest-is, from-unused}
-use Rattle.menu.proofs.Tidy.{named, some-viewed, count-is}
+use Rattle.menu.proofs.Tidy.{named}
 
 -- THE BIT of an identifier
 pub no-bit : (i : ℕ) → ((j : ℕ) → j < 32 → i ≡ 128 + j → ⊥) → 0 ≡ bits_of 32 (λ j. i == 128 + j)
@@ -94,14 +95,18 @@ free-further (suc n) m i l e = let q : suc n + m ≡ suc (n + m) = omega arith i
     go false e f = refl
 
 -- THE FREE IDENTIFIER
-pub free-is : (s : Rows) → TidyRows s → {l : List held.Row} {k used : ℕ} → l ≡ take s.count s.at → length l ≤ k → used ≡ used_to k l → count_trailing_zeros 32 (2 ^ 32 - 1 - used) + 128 ≡ smallest_free (view_rows s)
+pub free-is : (l : List held.Row) {k used : ℕ} → length l ≤ 12 → length l ≤ k → used ≡ used_to k l → count_trailing_zeros 32 (2 ^ 32 - 1 - used) + 128 ≡ smallest_free (map view_row l)
 unfolding view_row in_use
-free-is s t {l} {k} p h e =
+free-is l {k} few h e =
     ap (λ (k : ℕ). count_trailing_zeros 32 (2 ^ 32 - 1 - k) + 128)
-    (e ∙ ap (λ (r : List held.Row). bits_of 32 (λ j. some? (named (128 + j)) r)) (take_all k l h ∙ p) ∙ bits-alike 32 _ (λ j. in_use (128 + j) (view_rows s)) (λ j h. some-viewed s (has_identifier (128 + j))))
-    ∙ free-bits 32 128 (view_rows s)
-    ∙ sym (free-further 32 95 128 (view_rows s) (from-unused 32 128 (view_rows s) (omega (arith, count-is s t, t.few))))
-    ∙ sym (smallest-is (view_rows s))
+    (e ∙ ap (λ (r : List held.Row). bits_of 32 (λ j. some? (named (128 + j)) r)) (take_all k l h) ∙ bits-alike 32 _ (λ j. in_use (128 + j) (map view_row l)) (λ j h. map-some view_row (has_identifier (128 + j)) l))
+    ∙ free-bits 32 128 (map view_row l)
+    ∙ sym (free-further 32 95 128 (map view_row l) (from-unused 32 128 (map view_row l) (omega (arith, map-length view_row l, few))))
+    ∙ sym (smallest-is (map view_row l))
+
+pub free-of : (s : Rows) {n : ℕ} → n ≡ s.count → smallest_free (map view_row (take n s.at)) ≡ smallest_free (view_rows s)
+unfolding view_rows
+free-of s e = rw e refl
 
 -- THE IDENTIFIER of a new row: where 0 is requested the free one, else the requested one
 pub free-for : {requested i : ℕ} (rows : List Row) → requested ≡ 0 → i ≡ smallest_free rows → i ≡ identifier_for requested rows

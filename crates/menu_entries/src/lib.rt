@@ -2,7 +2,7 @@
 // A row is known by its identifier, never by its text.
 #![tactic(auto)]
 
-ghost use Rattle.std.specs.Prelude.{◌≡◌, ◌&&◌, ◌+◌, ◌≤◌, length, take};
+ghost use Rattle.std.specs.Prelude.{◌≡◌, ◌&&◌, ◌+◌, ◌≤◌, length, map, take};
 ghost use Rattle.std.specs.Prelude.{◌==◌};
 ghost use Rattle.std.specs.List.{position};
 ghost use Rattle.lists.specs.Bits.{bits_of};
@@ -82,12 +82,12 @@ fn bit_of(identifier: u8) -> u32
 }
 
 // The smallest of 128..255 that is not in use: twelve rows leave one of the first thirteen.
-fn free_identifier(rows: &Rows) -> u8
-    requires { TidyRows rows.now }
-    ensures { result ≡ smallest_free (view_rows rows.now) }
+fn free_identifier(listed: &[Row]) -> u8
+    requires { length listed.now ≤ 12 }
+    ensures { result ≡ smallest_free (map view_row listed.now) }
 {
     let mut used = 0;
-    for row in menu::listed(rows) {
+    for row in listed {
         used |= bit_of(row.identifier);
     }
     (u32::trailing_zeros(!used) + 128) as u8
@@ -104,7 +104,7 @@ pub fn entered(rows: Rows, pair: Pair, owner: u8, help: bool, text: &[u8]) -> Ad
     let mut count = rows.count;
     let mut identifier = pair.identifier;
     if identifier == 0 {
-        identifier = free_identifier(&rows);
+        identifier = free_identifier(&at[..n]);
     }
     if n < Rows::MOST {
         let row = row_of(identifier, owner, help, text);
@@ -126,11 +126,10 @@ pub fn entered(rows: Rows, pair: Pair, owner: u8, help: bool, text: &[u8]) -> Ad
 }
 
 // The index of the applet's row with an identifier.
-fn row_at(rows: &Rows, applet: u8, identifier: u8) -> Option<usize>
-    requires { TidyRows rows.now }
-    ensures { result ≡ position (λ (x : held.Row). x.identifier == identifier && x.owner == applet) (take rows.now.count rows.now.at) }
+fn row_at(listed: &[Row], applet: u8, identifier: u8) -> Option<usize>
+    ensures { result ≡ position (λ (x : held.Row). x.identifier == identifier && x.owner == applet) listed.now }
 {
-    menu::listed(rows)
+    listed
         .iter()
         .position(|row| row.identifier == identifier && row.owner == applet)
 }
@@ -142,7 +141,7 @@ pub fn enabled(rows: Rows, applet: u8, identifier: u8, on: bool) -> Touched
 {
     let mut next = rows;
     let mut turns = false;
-    let found = row_at(&next, applet, identifier);
+    let found = row_at(menu::listed(&next), applet, identifier);
     if let Some(i) = found {
         let mut row = next.at[i];
         turns = row.enabled != on;
@@ -168,16 +167,20 @@ pub fn changed(
     requires { TidyRows rows }
     ensures { result ≡ reworded_by applet identifier fits help text.now (view_rows rows) }
 {
-    let mut next = rows;
+    let mut at = rows.at;
     let mut turns = false;
-    let found = row_at(&next, applet, identifier);
+    let found = row_at(&at[..usize::from(rows.count)], applet, identifier);
     if let Some(i) = found {
         if fits {
-            let row = next.at[i];
+            let row = at[i];
             turns = menu_shown::turns_text(&row, help, text);
-            next.at[i] = reworded(row, help, text);
+            at[i] = reworded(row, help, text);
         }
     }
+    let next = Rows {
+        at,
+        count: rows.count,
+    };
     Touched {
         rows: next,
         its: found.is_some(),

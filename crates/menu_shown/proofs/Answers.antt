@@ -1,13 +1,16 @@
 -- What is read in a row that the array holds is what the rules say of it.
 -- Assumes nothing.
 use Prim.Native.Nat.{ℕ}
-use mathlib.Core.Path.{◌≡◌, refl, sym, ap, ◌∙◌}
+use mathlib.Core.Path.{◌≡◌, refl, sym, ap, ap₂, subst, ◌∙◌}
 use mathlib.Core.Bool.{Bool, true, false, not, beq, ◌&&◌, ◌||◌}
-use mathlib.Core.List.{List}
+use mathlib.Core.List.{List, [], ◌∷◌}
 use lib.ListN.{take}
 use Rattle.std.specs.Prelude.{◌==◌}
 use Rattle.std.specs.List.{list_any}
-use Rattle.lists.specs.Lists.{same?, some?, first}
+use borrow.Author.Tests.{eqb-true}
+use Rattle.lists.specs.Lists.{alike?, same?, some?, first}
+use Rattle.lists.proofs.Alike.{same_self}
+use Rattle.lists.proofs.Decided.{clashing}
 use Rattle.lists.proofs.Chains.{some_any}
 use Rattle.lists.proofs.Looking.{map_first}
 use Rattle.rules.specs.declared.Row as held
@@ -16,6 +19,27 @@ use Rattle.rules.specs.Holds.{Row}
 use Rattle.rules.specs.Held.{view_row, stored_row, view_rows, no_row, TidyRows}
 use Rattle.menu.proofs.Tidy.{blank, row_back, held-is, some-viewed}
 use Rattle.menu_shown.specs.Chosen.{chosen_owner, is_enabled_of, has_enabled_row, is_shown, has_shown_row, turns_text, turns_enabled}
+
+-- the answer of what compares two texts
+same-true : (l k : List ℕ) → same? l k ≡ true → l ≡ k
+unfolding same? alike?
+same-true [] [] e = refl
+same-true [] (y ∷ k) e = clashing e refl
+same-true (x ∷ l) [] e = clashing e refl
+same-true (x ∷ l) (y ∷ k) e = go (x == y) refl e (λ f. same-true l k f)
+  where
+    go : (b : Bool) → (x == y) ≡ b → (b && same? l k) ≡ true → (same? l k ≡ true → l ≡ k) → x ∷ l ≡ y ∷ k
+    go true p f g = ap₂ (λ (n : ℕ) (m : List ℕ). n ∷ m) (eqb-true x y p) (g f)
+    go false p f g = clashing f refl
+
+pub tells-same : (l k : List ℕ) {r : Bool} → (r ≡ true → l ≡ k) × (l ≡ k → r ≡ true) → r ≡ same? l k
+tells-same l k {r} f = go r (same? l k) refl refl
+  where
+    go : (b s : Bool) → r ≡ b → same? l k ≡ s → r ≡ same? l k
+    go true true p q = p ∙ sym q
+    go true false p q = clashing (subst (λ (z : List ℕ). same? l z ≡ true) (f.0 p) (same_self l)) q
+    go false true p q = clashing (f.1 (same-true l k q)) p
+    go false false p q = p ∙ sym q
 
 -- a search over the rows that the array holds
 abbrev pub asked_at : (identifier : ℕ) (help : Bool) → held.Row → Bool

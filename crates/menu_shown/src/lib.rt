@@ -62,7 +62,7 @@ pub fn same_text(row: &Row, text: &[u8]) -> bool
     requires { TidyRow row.now }
     ensures { result ≡ same? (view_row row.now).text text.now }
 {
-    &row.text[..usize::from(row.len)] == text
+    check::same(&row.text[..usize::from(row.len)], text)
 }
 
 // The row is enabled, and this help mark and text are not its own: to change it so turns what is shown of it.

@@ -1,8 +1,6 @@
 -- Lines one behind the other in a text, and their records one behind the other in the output.
 -- Assumes nothing.
 use Rattle.std.proofs.Common.{ℕ, zero, suc, ◌≡◌, ◌≢◌, ◌+◌, ◌-◌, ◌*◌, ◌≤◌, ◌<◌, ◌==◌, Bool, true, false, Some, None, Result, Ok, Err, List, [], ◌∷◌, ◌++◌, length, take, drop, length-drop, length-append, drop_of_length-le, append_assoc, add-one, refl, sym, ap, ◌∙◌, subst, arith}
-use Rattle.std.specs.List.{position}
-use Rattle.std.proofs.lemmas.List.Quantifiers.{position-Some}
 use native.Mathlib.Nat.{eq-zero-or-pos}
 use mathlib.Core.Path.{subst⁻¹}
 use mathlib.Core.List.{append-nil}
@@ -10,44 +8,33 @@ use mathlib.Core.Logic.{⊎_elim}
 use lib.Seq.{length-take-le, take_at, take_all, drop-drop}
 use borrow.Author.Count.{below_more}
 use borrow.Author.Tests.{lt-ltb, ne_eqb}
-use borrow.Rule.Slice.PartMut.{put_mid, post_of}
-use Rattle.texts.proofs.Places.{position-is, position-end}
+use mir.Val.{bool_byte}
 use Rattle.script_line.specs.Lines.{Meaning}
+use Rattle.script_line.specs.Records.{heard}
 use Rattle.script_line.specs.declared.Cause.{Cause}
 use Rattle.script_line.specs.declared.Cause.TheVariants.{LongLine}
 use Rattle.script.specs.declared.Stop.{Stop}
 use Rattle.script.specs.Texts.{line_length, Standing, Ends, Ended, Reads, Good, record_in, records_of, behind_lines, first_line, line_meaning, Stops}
 
--- where a line's feed stands, and what it leaves
+-- a line feed ends the first line of a text, or the whole text is that line
 module _ (text : List ℕ) where
-  pub line-at : {n : ℕ} → Some n ≡ position (λ b. b == 0x0A) text → n ≡ line_length text
-  unfolding line_length
-  line-at e = position-is 0x0A text e
+  pub ended-line : (last : Bool) → line_length text < length text → Ended last text
+  ended-line true h = tt
+  ended-line false h = h
 
-  pub line-whole : None ≡ position (λ b. b == 0x0A) text → length text ≡ line_length text
-  unfolding line_length
-  line-whole e = position-end 0x0A text e
-
-  pub ended-line : (last : Bool) {n : ℕ} → Some n ≡ position (λ b. b == 0x0A) text → Ended last text
-  ended-line true e = tt
-  ended-line false {n} e = let w = position-Some (λ b. b == 0x0A) text n 0 (sym e) in omega (arith, line-at e, w.0)
-
-  pub whole-line : length text ≡ line_length text → text ≡ first_line text
+  pub whole-line : length text ≤ line_length text → text ≡ first_line text
   unfolding first_line
-  whole-line e = let h : length text ≤ line_length text = omega arith in sym (take_all (line_length text) text h)
+  whole-line h = sym (take_all (line_length text) text h)
 
-  pub none-behind : length text ≡ line_length text → [] ≡ drop (line_length text + 1) text
-  none-behind e = let h : length text ≤ line_length text + 1 = omega arith in sym (drop_of_length-le text h)
+  pub none-behind : length text ≤ line_length text → [] ≡ drop (line_length text + 1) text
+  none-behind h = sym (drop_of_length-le text (omega arith))
 
-  pub long-line : length text ≡ line_length text → 200 < length text → line_meaning (first_line text) ≡ Err LongLine
+  pub long-line : length text ≤ line_length text → 200 < length text → line_meaning (first_line text) ≡ Err LongLine
   unfolding line_meaning
   long-line e h = rw (sym (whole-line e)) (simp (lt-ltb _ _ h))
 
 pub ended-last : {last : Bool} (text : List ℕ) → last ≡ true → Ended last text
 ended-last text e = rw e tt
-
-pub ends-open : {last : Bool} (text : List ℕ) → last ≡ false → length text ≡ line_length text → length text ≤ 200 → Ends last text
-ends-open text e f h = rw e (sym f, h)
 
 -- nothing that is left ends any text
 pub ends-none : (last : Bool) {left : List ℕ} → left ≡ [] → Ends last left
@@ -68,13 +55,19 @@ records-more (suc n) text =
     let rest = drop (suc (line_length text)) text in
     append_assoc (record_in (line_meaning (first_line text))) (records_of n rest) _ ∙ ap (λ l. record_in (line_meaning (first_line text)) ++ l) (records-more n rest)
 
-module _ (m k : ℕ) (out part : List ℕ) (room : m * 24 ≤ length out) where
+-- a part of the output behind the records that stand takes the place of what was there
+module _ (m : ℕ) (out : List ℕ) {before : List ℕ} (front : before ≡ take (m * 24) out) (room : m * 24 ≤ length out) where
+  front-long : length before ≡ m * 24
+  front-long = ap length front ∙ length-take-le (m * 24) out room
+
+  pub front-kept : (rest : List ℕ) → take (m * 24) (before ++ rest) ≡ take (m * 24) out
+  front-kept rest = take_at before rest (m * 24) front-long ∙ front
+
   -- the new record stands behind those before it
-  front-grows : length part ≡ 24 → take ((m + 1) * 24) (put_mid (m * 24) k out part) ≡ take (m * 24) out ++ part
-  front-grows h =
-      let long : length (take (m * 24) out ++ part) ≡ (m + 1) * 24 = omega (arith, length-append (take (m * 24) out) part, length-take-le (m * 24) out room) in
-      ap (take ((m + 1) * 24)) (sym (append_assoc (take (m * 24) out) part (post_of (m * 24) k out)))
-      ∙ take_at (take (m * 24) out ++ part) (post_of (m * 24) k out) ((m + 1) * 24) long
+  front-grows : (part rest : List ℕ) → length part ≡ 24 → take ((m + 1) * 24) (before ++ (part ++ rest)) ≡ take (m * 24) out ++ part
+  front-grows part rest h =
+      let long : length (before ++ part) ≡ (m + 1) * 24 = omega (arith, length-append before part, front-long) in
+      ap (take ((m + 1) * 24)) (sym (append_assoc before part rest)) ∙ take_at (before ++ part) rest ((m + 1) * 24) long ∙ ap (λ l. l ++ part) front
 
 -- a record or nothing is not bad
 good-record : {x : Meaning} (s : List ℕ) → Ok (Some s) ≡ x → Good x
@@ -110,30 +103,42 @@ module _ {last : Bool} {at m lines next : ℕ} {text out : List ℕ} (room : m *
     all-read : Good (line_meaning (first_line (behind_lines lines text))) → (i : ℕ) → i < lines + 1 → Reads last long i text
     all-read g = below_more (λ i. Reads last long i text) lines (λ i h. subst⁻¹ (λ (n : ℕ). Reads last n i text) same (s.reads i h)) (line-reads g)
 
-  pub standing-record : (k : ℕ) (part : List ℕ) → length part ≡ 24 → length (put_mid (m * 24) k out part) ≡ length out → Ok (Some part) ≡ line_meaning (first_line (drop at text))
-      → Standing last next (m + 1) (lines + 1) text (put_mid (m * 24) k out part)
+  pub standing-record : (now part : List ℕ) → length now ≡ length out → take ((m + 1) * 24) now ≡ take (m * 24) out ++ part → Ok (Some part) ≡ line_meaning (first_line (drop at text))
+      → Standing last next (m + 1) (lines + 1) text now
   unfolding record_in
-  standing-record k part long same e = record {
+  standing-record now part same front e = record {
     read = within;
     fits = omega (arith, room, same);
     lined = omega (arith, s.lined);
     few = omega (arith, s.few);
     left = further;
     reads = all-read _ same (good-record part (line-is e));
-    made = all-made (front-grows m k out part s.fits long ∙ ap (λ x. take (m * 24) out ++ record_in x) (line-is e));
+    made = all-made (front ∙ ap (λ x. take (m * 24) out ++ record_in x) (line-is e));
   }
 
-  pub standing-blank : Ok None ≡ line_meaning (first_line (drop at text)) → Standing last next m (lines + 1) text out
+  pub standing-blank : (now : List ℕ) → length now ≡ length out → take (m * 24) now ≡ take (m * 24) out → Ok None ≡ line_meaning (first_line (drop at text)) → Standing last next m (lines + 1) text now
   unfolding record_in
-  standing-blank e = record {
+  standing-blank now same front e = record {
     read = within;
-    fits = s.fits;
+    fits = omega (arith, s.fits, same);
     lined = omega (arith, s.lined);
     few = omega (arith, s.few);
     left = further;
-    reads = all-read _ refl (good-blank (line-is e));
-    made = all-made (sym (append-nil (take (m * 24) out)) ∙ ap (λ x. take (m * 24) out ++ record_in x) (line-is e));
+    reads = all-read _ same (good-blank (line-is e));
+    made = all-made (front ∙ sym (append-nil (take (m * 24) out)) ∙ ap (λ x. take (m * 24) out ++ record_in x) (line-is e));
   }
+
+-- what is behind the records is of no account
+standing-kept : {last : Bool} {at m lines : ℕ} {text out now : List ℕ} → length now ≡ length out → take (m * 24) now ≡ take (m * 24) out → Standing last at m lines text out → Standing last at m lines text now
+standing-kept {last} {text = text} same front s = record {
+  read = s.read;
+  fits = omega (arith, s.fits, same);
+  lined = s.lined;
+  few = s.few;
+  left = s.left;
+  reads = λ k h. subst⁻¹ (λ (n : ℕ). Reads last n k text) same (s.reads k h);
+  made = front ∙ s.made;
+}
 
 -- what is left of what is left of a text is left of the text
 rest-on : (text left : List ℕ) (k : ℕ) → length left ≤ length text → drop (length text - length left) text ≡ left → drop (length text - length (drop k left)) text ≡ drop k left
@@ -167,24 +172,36 @@ module _ {last : Bool} {records lines : ℕ} {text left behind out : List ℕ} (
   on-text : drop (length text - length behind) text ≡ drop (suc (line_length (drop (length text - length left) text))) (drop (length text - length left) text)
   on-text = rw s.rest (rest-behind ∙ on ∙ ap (λ n. drop n left) (add-one (line_length left)))
 
-  pub composing-record : (k : ℕ) (part : List ℕ) → length part ≡ 24 → length (put_mid (records * 24) k out part) ≡ length out → Ok (Some part) ≡ line_meaning (first_line left)
-      → Composing last (records + 1) (lines + 1) text behind (put_mid (records * 24) k out part)
-  composing-record k part long same e = record {
-    standing = standing-record room (omega (arith, shorter, s.within)) (omega arith) on-text (rw s.rest finished) s.standing k part long same (rw s.rest e);
-    within = omega (arith, shorter, s.within);
-    rest = rest-behind;
-  }
+  module _ {before : List ℕ} (space : List ℕ) (front : before ≡ take (records * 24) out) (back : length space + records * 24 ≡ length out) (part : List ℕ) (same : length (before ++ (part ++ drop 24 space)) ≡ length out) where
+    long : length part ≡ 24
+    long = omega (arith, room, back, same, ap length front, length-take-le (records * 24) out (omega arith), length-append before (part ++ drop 24 space), length-append part (drop 24 space), length-drop 24 space)
 
-  pub composing-blank : Ok None ≡ line_meaning (first_line left) → Composing last records (lines + 1) text behind out
-  composing-blank e = record {
-    standing = standing-blank room (omega (arith, shorter, s.within)) (omega arith) on-text (rw s.rest finished) s.standing (rw s.rest e);
-    within = omega (arith, shorter, s.within);
-    rest = rest-behind;
-  }
+    composing-record : Ok (Some part) ≡ line_meaning (first_line left) → Composing last (records + 1) (lines + 1) text behind (before ++ (part ++ drop 24 space))
+    composing-record e = record {
+      standing =
+          let fits : records * 24 ≤ length out = omega arith in
+          standing-record room (omega (arith, shorter, s.within)) (omega arith) on-text (rw s.rest finished) s.standing (before ++ (part ++ drop 24 space)) part same (front-grows records out front fits part (drop 24 space) long) (rw s.rest e);
+      within = omega (arith, shorter, s.within);
+      rest = rest-behind;
+    }
 
--- the same, where a place or the output is known by another name
-pub composing-moved : {last : Bool} {m n lines long : ℕ} {text left out o : List ℕ} → n ≡ m → o ≡ out → Composing last m lines text left out × (length out ≡ long) → Composing last n lines text left o × (length o ≡ long)
-composing-moved e f h = rw (e, f) h
+    composing-blank : Ok None ≡ line_meaning (first_line left) → Composing last records (lines + 1) text behind (before ++ (part ++ drop 24 space))
+    composing-blank e = record {
+      standing =
+          let fits : records * 24 ≤ length out = omega arith in
+          standing-blank room (omega (arith, shorter, s.within)) (omega arith) on-text (rw s.rest finished) s.standing (before ++ (part ++ drop 24 space)) same (front-kept records out front fits (part ++ drop 24 space)) (rw s.rest e);
+      within = omega (arith, shorter, s.within);
+      rest = rest-behind;
+    }
+
+    -- the line gave a record, or none
+    pub composing-line : (made : Bool) {n : ℕ} → n ≡ bool_byte made → heard (Ok made) part ≡ line_meaning (first_line left) → Composing last (records + n) (lines + 1) text behind (before ++ (part ++ drop 24 space))
+    composing-line true f e = rw f (composing-record e)
+    composing-line false f e = let z : records + 0 ≡ records = omega arith in rw (f, z) (composing-blank e)
+
+-- the same lines, where no record is put behind those that stand
+pub composing-kept : {last : Bool} {records lines : ℕ} {text left out now : List ℕ} → length now ≡ length out → take (records * 24) now ≡ take (records * 24) out → Composing last records lines text left out → Composing last records lines text left now
+composing-kept same front s = record { standing = standing-kept same front s.standing; within = s.within; rest = s.rest }
 
 -- no line is read yet
 pub composing-none : (last : Bool) (text out : List ℕ) → Composing last 0 0 text text out

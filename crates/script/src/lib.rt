@@ -2,10 +2,11 @@
 // A line ends at a line feed; a carriage return before that does not count.
 #![tactic(auto)]
 
-ghost use Rattle.std.specs.Prelude.{◌≡◌, ◌+◌, take, drop, Err, MatchOption, MatchResult};
+ghost use Rattle.std.specs.Prelude.{◌≡◌, ◌+◌, ◌≤◌, length, take, drop, Err, MatchOption, MatchResult};
+ghost use Rattle.script_line.specs.Records.{heard};
 ghost use Rattle.script.specs.Texts.{Composed, Ended, Ends, trimmed_of, line_meaning, line_length, first_line};
 
-use script_line::{Cause, record};
+use script_line::{Cause, write_record};
 
 // Why composing ends where no line is bad: nothing is left of the text, or there is no room for a record.
 #[derive(Clone, Copy, PartialEq, Eq)]
@@ -34,15 +35,26 @@ fn trimmed(line: &[u8]) -> &[u8]
     }
 }
 
-// The record of a line of at most 200 bytes.
+// Writes the record of a line of at most 200 bytes where it is to stand, and says whether there is one.
 #[tactic(auto, unfolding(crate::specs::Texts::line_meaning))]
-fn line_record(line: &[u8]) -> Result<Option<[u8; 24]>, Cause>
-    ensures { result ≡ line_meaning line.now }
+fn line_record(line: &[u8], out: &mut [u8; 24]) -> Result<bool, Cause>
+    ensures { heard result out.new ≡ line_meaning line.now }
 {
     if 200 < line.len() {
         return Err(Cause::LongLine);
     }
-    record(trimmed(line))
+    write_record(trimmed(line), out)
+}
+
+// How many bytes the line has that a text starts with.
+// Out of line: within `compose`, and as `texts::place`, its loop counts up an address beside the number.
+#[inline(never)]
+#[tactic(auto, unfolding(crate::specs::Texts::line_length))]
+fn line_len(text: &[u8]) -> usize
+    ensures count { result ≡ line_length text.now }
+    ensures within { result ≤ length text.now }
+{
+    text.iter().take_while(|b| **b != b'\n').count()
 }
 
 // The line that a text starts with, and what is left behind it; none where the line may still go on.
@@ -54,11 +66,11 @@ fn next_line(text: &[u8], last: bool) -> Result<Option<(&[u8], &[u8])>, Cause>
         (λ parts. Ended last text.now × (parts.0.now ≡ first_line text.now) × (parts.1.now ≡ drop (line_length text.now + 1) text.now)))
         (λ c. line_meaning (first_line text.now) ≡ Err c) }
 {
-    match texts::place(text, b'\n') {
-        Some(n) => Ok(Some((&text[..n], &text[n + 1..]))),
-        None if last => Ok(Some((text, &[]))),
-        None if 200 < text.len() => Err(Cause::LongLine),
-        None => Ok(None),
+    match text.split_at(line_len(text)) {
+        (line, [_, behind @ ..]) => Ok(Some((line, behind))),
+        (line, []) if last => Ok(Some((line, &[]))),
+        (line, []) if 200 < line.len() => Err(Cause::LongLine),
+        _ => Ok(None),
     }
 }
 
@@ -75,22 +87,18 @@ pub fn compose(text: &[u8], out: &mut [u8], last: bool) -> Progress
         if left.is_empty() {
             break Ok(Stop::End);
         }
-        if out.len() - records * 24 < 24 {
+        let (_, room) = out.split_at_mut(records * 24);
+        let Some(place) = room.first_chunk_mut() else {
             break Ok(Stop::Full);
-        }
+        };
         let (line, behind) = match next_line(left, last) {
             Ok(Some(parts)) => parts,
             Ok(None) => break Ok(Stop::End),
             Err(cause) => break Err(cause),
         };
-        let record = match line_record(line) {
-            Ok(record) => record,
+        match line_record(line, place) {
+            Ok(made) => records += usize::from(made),
             Err(cause) => break Err(cause),
-        };
-        if let Some(record) = record {
-            let wrote = records * 24;
-            out[wrote..wrote + 24].copy_from_slice(&record);
-            records += 1;
         }
         lines += 1;
         left = behind;

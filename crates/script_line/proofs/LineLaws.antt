@@ -1,19 +1,17 @@
 -- Laws of what a line means: its letter, its applet's number, its event value, and what its arguments give.
 -- Assumes nothing.
-use Rattle.std.proofs.Common.{ℕ, zero, suc, ◌≡◌, ◌≢◌, ◌/◌, ◌%◌, ◌≤◌, ◌<◌, true, false, Option, Some, None, Ok, Err, List, [], ◌∷◌, ◌++◌, length, get_or, take, drop, replicate, refl, sym, ap, ◌∙◌, arith}
-use Rattle.std.specs.List.{prefix_len}
+use Rattle.std.proofs.Common.{ℕ, ◌≡◌, ◌≢◌, ◌/◌, ◌%◌, ◌≤◌, ◌<◌, true, false, Some, None, Ok, Err, List, [], ◌∷◌, ◌++◌, length, get_or, drop, replicate, refl, sym, ap, ◌∙◌, arith}
 use Rattle.std.proofs.lemmas.List.{drop-replicate}
-use lib.Seq.{get_or-take}
-use borrow.Rule.Slice.PartMut.{post_of}
 use borrow.Author.Tests.{eq-eqb, ne_eqb, le-ltb, lt-ltb}
 use Rattle.lists.specs.Lists.{empty?, padded}
-use Rattle.script_line.specs.Words.{Number, in_word?, skipped, word, behind, decimal_of, signed_of}
-use Rattle.script_line.specs.Lines.{Said, bytes_of, installed, helped, only_if_last, event_of, arguments_of, record_of, record_by, small, applet_of, named_by, lettered, form_of, by_letter, Meaning, meaning_of}
+use Rattle.script_line.specs.Words.{Number, ended?, skipped, word, behind, decimal_of, signed_of}
+use Rattle.script_line.specs.Lines.{bytes_of, installed, helped, only_if_last, event_of, arguments_of, record_of, record_by, small, applet_of, named_by, lettered, form_of, by_letter, meaning_of}
+use Rattle.script_line.proofs.ByteLaws.{one-byte, more-bytes, behind-one}
 use Rattle.script_line.specs.declared.Cause.{Cause}
 use Rattle.script_line.specs.declared.Cause.TheVariants.{UnknownLetter, MissingApplet, MissingNumber, LargeNumber, MissingHelp, BadHelp, ExtraWord}
 use Rattle.script_line.specs.declared.Kind.{Kind}
 use Rattle.script_line.specs.declared.Kind.TheVariants.{Install, Entry, Event}
-use Rattle.script_line.specs.declared.Form.{Form}
+use Rattle.script_line.specs.declared.Form.TheVariants.{Applet, Bytes, Alone}
 
 filled : (s : List ℕ) → 0 < length s → empty? s ≡ false
 unfolding empty?
@@ -98,61 +96,72 @@ unfolding arguments_of helped
 help-none s e = ap helped e
 
 -- the bytes of an install, and 0 behind them
-pub install-is : (s : List ℕ) {l a : List ℕ} {k : ℕ} → bytes_of 12 s ≡ Ok l → a ≡ l → k ≡ length l → Ok (a ++ drop k (replicate 12 0)) ≡ arguments_of Install s
+pub install-is : (s : List ℕ) {l : List ℕ} → bytes_of 12 s ≡ Ok l → arguments_of Install s ≡ Ok (l ++ drop (length l) (replicate 12 0))
 unfolding arguments_of installed padded
-install-is s {l} e f g = rw (e, f, g) (ap (λ t. Ok (l ++ t)) (drop-replicate (length l) 12 0))
+install-is s {l} e = rw e (ap (λ t. Ok (l ++ t)) (sym (drop-replicate (length l) 12 0)))
 
-pub install-bad : (s : List ℕ) {c : Cause} → bytes_of 12 s ≡ Err c → Err c ≡ arguments_of Install s
+pub install-bad : (s : List ℕ) {c : Cause} → bytes_of 12 s ≡ Err c → arguments_of Install s ≡ Err c
 unfolding arguments_of installed
 install-bad s e = rw e refl
 
--- letter, applet and count stand before the arguments, and 0 behind them
-pub sealed-is : (letter applet : ℕ) {l a : List ℕ} {k : ℕ} → a ≡ l → k ≡ length l → letter ∷ applet ∷ length l ∷ (a ++ post_of 3 k (letter ∷ applet ∷ length l ∷ replicate 21 0)) ≡ record_of letter applet l
-unfolding record_of padded
-sealed-is letter applet {l} f g = rw (f, g) (ap (λ t. letter ∷ applet ∷ length l ∷ (l ++ t)) (drop-replicate (length l) 21 0))
+-- what follows a letter, by what its applet's number and its arguments are
+module _ (letter : ℕ) (s : List ℕ) where
+  module _ (kind : Kind) {a : ℕ} (e : applet_of s ≡ Ok a) {t : List ℕ} (i : t ≡ behind (skipped s)) where
+    by-applet : lettered (Some (Applet kind)) letter s ≡ record_by letter a (arguments_of kind t)
+    unfolding lettered named_by
+    by-applet = rw (e, sym i) refl
 
--- the record of what the arguments gave
-module _ (letter applet : ℕ) {x : Said} where
-  pub record-is : {l r : List ℕ} → x ≡ Ok l → r ≡ record_of letter applet l → Ok (Some r) ≡ record_by letter applet x
-  unfolding record_by
-  record-is g h = rw (g, h) refl
+    pub applet-record : {l : List ℕ} → arguments_of kind t ≡ Ok l → lettered (Some (Applet kind)) letter s ≡ Ok (Some (record_of letter a l))
+    unfolding record_by
+    applet-record f = by-applet ∙ rw f refl
 
-  pub record-bad : {c : Cause} → x ≡ Err c → Err c ≡ record_by letter applet x
-  unfolding record_by
-  record-bad g = rw g refl
+    pub applet-wrong : {c : Cause} → arguments_of kind t ≡ Err c → lettered (Some (Applet kind)) letter s ≡ Err c
+    unfolding record_by
+    applet-wrong f = by-applet ∙ rw f refl
 
--- a line whose letter takes an applet
-pub named-is : {kind k : Kind} (letter : ℕ) {a : ℕ} (s : List ℕ) {t : List ℕ} → kind ≡ k → applet_of s ≡ Ok a → t ≡ behind (skipped s)
-    → {x : Meaning} → x ≡ record_by letter a (arguments_of k t) → x ≡ named_by kind letter (applet_of s) (behind (skipped s))
-unfolding named_by
-named-is letter s i e f d = rw (e, sym f, i) d
+  pub applet-fails : (kind : Kind) {c : Cause} → applet_of s ≡ Err c → lettered (Some (Applet kind)) letter s ≡ Err c
+  unfolding lettered named_by
+  applet-fails kind e = rw e refl
 
-pub named-none : (kind : Kind) (letter : ℕ) (s : List ℕ) {c : Cause} → applet_of s ≡ Err c → Err c ≡ named_by kind letter (applet_of s) (behind (skipped s))
-unfolding named_by
-named-none kind letter s e = rw e refl
+  pub bytes-record : {l : List ℕ} → bytes_of 20 s ≡ Ok l → lettered (Some Bytes) letter s ≡ Ok (Some (record_of letter 0 l))
+  unfolding lettered record_by
+  bytes-record e = rw e refl
+
+  pub bytes-wrong : {c : Cause} → bytes_of 20 s ≡ Err c → lettered (Some Bytes) letter s ≡ Err c
+  unfolding lettered record_by
+  bytes-wrong e = rw e refl
+
+  pub alone-record : skipped s ≡ [] → lettered (Some Alone) letter s ≡ Ok (Some (record_of letter 0 []))
+  unfolding lettered record_by
+  alone-record e = rw (last-yes [] s e) refl
+
+  pub alone-wrong : skipped s ≢ [] → lettered (Some Alone) letter s ≡ Err ExtraWord
+  unfolding lettered record_by
+  alone-wrong n = rw (last-no [] s n) refl
+
+pub unknown : (letter : ℕ) (s : List ℕ) → lettered None letter s ≡ Err UnknownLetter
+unfolding lettered
+unknown letter s = refl
 
 -- what a line means, by its first word
-pub means-blank : (s : List ℕ) → skipped s ≡ [] → Ok None ≡ meaning_of s
+pub means-blank : (s start : List ℕ) → start ≡ skipped s → length start < 1 → meaning_of s ≡ Ok None
 unfolding meaning_of
-means-blank s e = simp (none e)
+means-blank s [] e h = simp (none (sym e))
+means-blank s (b ∷ r) e h = absurd (omega arith)
 
-module _ (s : List ℕ) (more : 0 < length (skipped s)) {w : List ℕ} (e : w ≡ word (skipped s)) where
-  means-word : {x : Meaning} → x ≡ by_letter (skipped s) → x ≡ meaning_of s
-  unfolding meaning_of
-  means-word d = simp (filled _ more) d
+by-start : (s : List ℕ) {b : ℕ} {r : List ℕ} → skipped s ≡ b ∷ r → meaning_of s ≡ by_letter (b ∷ r)
+unfolding meaning_of empty?
+by-start s e = rw e refl
 
-  pub means-long : length w ≢ 1 → Err UnknownLetter ≡ meaning_of s
-  unfolding by_letter
-  means-long n = means-word (simp (ne_eqb _ _ (λ h. n (ap length e ∙ h))))
+pub means-letter : (s start : List ℕ) → start ≡ skipped s → 1 ≤ length start → {t : List ℕ} → t ≡ drop 1 start → true ≡ ended? t
+    → meaning_of s ≡ lettered (form_of (get_or start 0 0)) (get_or start 0 0) t
+unfolding by_letter
+means-letter s [] e h k f = absurd (omega arith)
+means-letter s (b ∷ r) e h k f =
+    let end = f ∙ ap ended? k in
+    by-start s (sym e) ∙ simp (eq-eqb _ _ (one-byte s (sym e) end)) (ap (lettered (form_of b) b) (behind-one s (sym e) end ∙ sym k))
 
-  first-byte : length w ≡ 1 → get_or w 0 0 ≡ get_or (skipped s) 0 0
-  unfolding word
-  first-byte one = ap (λ t. get_or t 0 0) e ∙ go (prefix_len in_word? (skipped s)) (sym (ap length e) ∙ one)
-    where
-      go : (n : ℕ) → length (take n (skipped s)) ≡ 1 → get_or (take n (skipped s)) 0 0 ≡ get_or (skipped s) 0 0
-      go zero h = absurd (omega arith)
-      go (suc n) h = get_or-take (suc n) (skipped s) 0 0 (omega arith)
-
-  pub means-letter : length w ≡ 1 → {t : List ℕ} → t ≡ behind (skipped s) → {f : Option Form} → f ≡ form_of (get_or w 0 0) → {x : Meaning} → x ≡ lettered f (get_or w 0 0) t → x ≡ meaning_of s
-  unfolding by_letter
-  means-letter one k g d = means-word (simp (eq-eqb _ _ (sym (ap length e) ∙ one)) (d ∙ rw (g, k, first-byte one) refl))
+pub means-word : (s start : List ℕ) → start ≡ skipped s → 1 ≤ length start → {t : List ℕ} → t ≡ drop 1 start → false ≡ ended? t → meaning_of s ≡ Err UnknownLetter
+unfolding by_letter
+means-word s [] e h k f = absurd (omega arith)
+means-word s (b ∷ r) e h k f = by-start s (sym e) ∙ simp (ne_eqb _ _ (more-bytes s (sym e) (f ∙ ap ended? k)))

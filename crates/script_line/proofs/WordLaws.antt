@@ -7,7 +7,7 @@ use mathlib.Core.Logic.{⊎_elim}
 use lib.Dec.{eqb}
 use borrow.Author.Tests.{eqb-true, eq-eqb, ne_eqb, le-ltb, lt-ltb}
 use Rattle.lists.proofs.Parts.{part-rest}
-use Rattle.script_line.specs.Words.{space?, skipped, Number, digits_from, decimal_of, minus, plus, signed_of}
+use Rattle.script_line.specs.Words.{space?, skipped, ended?, Number, digits_from, decimal_of, minus, plus, signed_of}
 use Rattle.script_line.specs.declared.Cause.TheVariants.{BadNumber, LargeNumber}
 
 -- what is left behind spaces: nothing where a comment starts
@@ -92,3 +92,19 @@ module _ (s : List ℕ) {at : ℕ} (v : ℕ) where
 pub decimal-some : (s : List ℕ) {x : Number} → length s ≢ 0 → digits_from 0 s ≡ x → x ≡ decimal_of s
 unfolding decimal_of
 decimal-some s n e = simp (ne_eqb _ _ n) (sym e)
+
+-- a word ends where nothing, a comment or a space stands
+pub ended-none : (s : List ℕ) → length s < 1 → true ≡ ended? s
+unfolding ended?
+ended-none [] h = refl
+ended-none (b ∷ s) h = absurd (omega arith)
+
+pub ended-hash : (s : List ℕ) → 1 ≤ length s → get_or s 0 0 ≡ 0x23 → true ≡ ended? s
+unfolding ended?
+ended-hash [] h e = absurd (omega arith)
+ended-hash (b ∷ s) h e = simp (eq-eqb _ _ e)
+
+pub ended-else : (s : List ℕ) → 1 ≤ length s → get_or s 0 0 ≢ 0x23 → space? (get_or s 0 0) ≡ ended? s
+unfolding ended?
+ended-else [] h n = absurd (omega arith)
+ended-else (b ∷ s) h n = simp (ne_eqb _ _ n)

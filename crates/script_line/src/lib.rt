@@ -7,7 +7,7 @@ mod line;
 mod messages;
 mod words;
 
-pub use line::record;
+pub use line::{record, write_record};
 
 // Why a line is no record.
 #[derive(Clone, Copy, PartialEq, Eq)]

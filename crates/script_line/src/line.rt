@@ -1,11 +1,12 @@
 // A line as a record of the floor program.
 // What a line means stands in specs/Lines.antt.
-ghost use Rattle.std.specs.Prelude.{◌≡◌, ◌≤◌, length};
-ghost use Rattle.script_line.specs.Words.{skipped, behind};
-ghost use Rattle.script_line.specs.Lines.{form_of, record_of, applet_of, named_by, meaning_of};
+ghost use Rattle.std.specs.Prelude.{ℕ, ◌≡◌, Some, None, Ok, Err, replicate, MatchOption, MatchResult};
+ghost use Rattle.script_line.specs.Lines.{form_of, lettered, meaning_of};
+ghost use Rattle.script_line.specs.Records.{Followed, heard};
+ghost use Rattle.script_line.specs.declared.Form.TheVariants.{Applet};
 
-use crate::fields::{applet, bytes, entry, event, install, nothing_left};
-use crate::words::next_word;
+use crate::fields::{applet, arguments, bytes, nothing_left};
+use crate::words::{is_end, skip_spaces};
 use crate::{Cause, Form, Kind};
 
 // What follows a letter, if it is one.
@@ -24,53 +25,74 @@ fn form(letter: u8) -> Option<Form>
     }
 }
 
-// The record of a letter, an applet and argument bytes.
-fn sealed(letter: u8, applet: u8, arguments: &[u8]) -> [u8; 24]
-    requires { length arguments.now ≤ 20 }
-    ensures { result ≡ record_of letter applet arguments.now }
+// The letter that a line starts with, and what is left behind it; none where the line has no word.
+fn first_letter(line: &[u8]) -> Result<Option<(u8, &[u8])>, Cause>
+    ensures { MatchResult result
+        (λ next. MatchOption next
+        (meaning_of line.now ≡ Ok None)
+        (λ first. meaning_of line.now ≡ lettered (form_of first.0) first.0 first.1.now))
+        (λ c. meaning_of line.now ≡ Err c) }
 {
-    let mut record = [0; 24];
-    record[0] = letter;
-    record[1] = applet;
-    record[2] = arguments.len() as u8;
-    record[3..3 + arguments.len()].copy_from_slice(arguments);
-    record
+    match skip_spaces(line) {
+        [] => Ok(None),
+        [letter, left @ ..] if is_end(left) => Ok(Some((*letter, left))),
+        _ => Err(Cause::UnknownLetter),
+    }
 }
 
-// The record of a line whose letter takes an applet.
-fn named(kind: Kind, letter: u8, line: &[u8]) -> Result<Option<[u8; 24]>, Cause>
-    ensures { result ≡ named_by kind letter (applet_of line.now) (behind (skipped line.now)) }
+// Reads the applet's number that follows a letter, and how many argument bytes follow that, which go into a room of zeros.
+// Out of line: in one function with all else it makes each line dearer, by a tenth where no applet is named.
+#[inline(never)]
+fn named(kind: Kind, line: &[u8], room: &mut [u8]) -> Result<(u8, usize), Cause>
+    requires { room.old ≡ replicate 20 0 }
+    ensures { MatchResult result
+        (λ next. Followed (Applet kind) line.now next.0 next.1 room.old room.new)
+        (λ c. (letter : ℕ) → lettered (Some (Applet kind)) letter line.now ≡ Err c) }
 {
     let (number, left) = applet(line)?;
-    let record = match kind {
-        Kind::Install => sealed(letter, number, &install(left)?),
-        Kind::Entry => sealed(letter, number, &entry(left)?),
-        Kind::Event => sealed(letter, number, &event(left)?),
-        Kind::Nothing => {
-            nothing_left(left)?;
-            sealed(letter, number, &[])
+    Ok((number, arguments(kind, left, room)?))
+}
+
+// Reads what follows a letter: the second byte of the record, and how many argument bytes, which go into a room of zeros.
+fn read_on(form: Form, line: &[u8], room: &mut [u8]) -> Result<(u8, usize), Cause>
+    requires { room.old ≡ replicate 20 0 }
+    ensures { MatchResult result
+        (λ next. Followed form line.now next.0 next.1 room.old room.new)
+        (λ c. (letter : ℕ) → lettered (Some form) letter line.now ≡ Err c) }
+{
+    match form {
+        Form::Applet(kind) => named(kind, line, room),
+        Form::Bytes => Ok((0, bytes(line, room)?)),
+        Form::Alone => {
+            nothing_left(line)?;
+            Ok((0, 0))
         }
+    }
+}
+
+// Writes the record of a line where it is to stand, so that nothing is copied, and says whether there is one: a line with no word has none.
+pub fn write_record(line: &[u8], out: &mut [u8; 24]) -> Result<bool, Cause>
+    ensures { heard result out.new ≡ meaning_of line.now }
+{
+    let Some((letter, left)) = first_letter(line)? else {
+        return Ok(false);
     };
-    Ok(Some(record))
+    let Some(form) = form(letter) else {
+        return Err(Cause::UnknownLetter);
+    };
+    *out = [0; 24];
+    let (applet, count) = read_on(form, left, &mut out[3..23])?;
+    out[0] = letter;
+    out[1] = applet;
+    out[2] = count as u8;
+    Ok(true)
 }
 
 // The record of a line, or none where the line has no word.
 pub fn record(line: &[u8]) -> Result<Option<[u8; 24]>, Cause>
     ensures { result ≡ meaning_of line.now }
 {
-    let Some((word, left)) = next_word(line) else {
-        return Ok(None);
-    };
-    let &[letter] = word else {
-        return Err(Cause::UnknownLetter);
-    };
-    match form(letter) {
-        Some(Form::Applet(kind)) => named(kind, letter, left),
-        Some(Form::Bytes) => Ok(Some(sealed(letter, 0, &bytes::<20>(left)?))),
-        Some(Form::Alone) => {
-            nothing_left(left)?;
-            Ok(Some(sealed(letter, 0, &[])))
-        }
-        None => Err(Cause::UnknownLetter),
-    }
+    let mut out = [0; 24];
+    let made = write_record(line, &mut out)?;
+    Ok(made.then_some(out))
 }

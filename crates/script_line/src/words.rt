@@ -2,7 +2,7 @@
 // A word ends at a space, at a tab, or at a '#', which starts a comment.
 ghost use Rattle.std.specs.Prelude.{◌≡◌, ◌<◌, ◌≤◌, [], length, IfSome, MatchOption};
 ghost use Rattle.std.specs.List.{prefix_len};
-ghost use Rattle.script_line.specs.Words.{space?, in_word?, skipped, word, behind, nibble_of, byte_of, decimal_of, minus, plus, signed_of};
+ghost use Rattle.script_line.specs.Words.{space?, in_word?, skipped, word, behind, ended?, nibble_of, joined, decimal_of, minus, plus, signed_of};
 
 use crate::Cause;
 
@@ -20,6 +20,16 @@ fn in_word(b: u8) -> bool
     b != b'#' && !is_space(b)
 }
 
+// A space, a comment or nothing stands at the front of a line.
+pub(crate) fn is_end(line: &[u8]) -> bool
+    ensures { result ≡ ended? line.now }
+{
+    match line {
+        [] | [b'#', ..] => true,
+        [b, ..] => is_space(*b),
+    }
+}
+
 // How many bytes at the front of a line stand between words.
 fn spaces(line: &[u8]) -> usize
     ensures count { result ≡ prefix_len space? line.now }
@@ -29,7 +39,7 @@ fn spaces(line: &[u8]) -> usize
 }
 
 // How many bytes the word has that a line starts with.
-pub(crate) fn word_len(line: &[u8]) -> usize
+fn word_len(line: &[u8]) -> usize
     ensures count { result ≡ prefix_len in_word? line.now }
     ensures within { result ≤ length line.now }
 {
@@ -48,7 +58,7 @@ pub(crate) fn skip_spaces(line: &[u8]) -> &[u8]
 
 // The word that a line starts with, and what is left behind it.
 #[tactic(auto, unfolding(crate::specs::Words::word, crate::specs::Words::behind))]
-pub(crate) fn split_word(line: &[u8]) -> (&[u8], &[u8])
+fn split_word(line: &[u8]) -> (&[u8], &[u8])
     ensures front { result.0.now ≡ word line.now }
     ensures back { result.1.now ≡ behind line.now }
 {
@@ -82,15 +92,12 @@ fn nibble(b: u8) -> Option<u8>
 }
 
 // The byte that two hexadecimal digits give.
-#[tactic(auto, unfolding(crate::specs::Words::byte_of, crate::specs::Words::joined))]
-pub(crate) fn byte(word: &[u8]) -> Result<u8, Cause>
-    ensures { result ≡ byte_of word.now }
+#[tactic(auto, unfolding(crate::specs::Words::joined))]
+pub(crate) fn byte(high: u8, low: u8) -> Result<u8, Cause>
+    ensures { result ≡ joined (nibble_of high) (nibble_of low) }
 {
-    let [high, low] = word else {
-        return Err(Cause::BadByte);
-    };
-    let high = nibble(*high).ok_or(Cause::BadByte)?;
-    let low = nibble(*low).ok_or(Cause::BadByte)?;
+    let high = nibble(high).ok_or(Cause::BadByte)?;
+    let low = nibble(low).ok_or(Cause::BadByte)?;
     Ok(high * 16 + low)
 }
 

@@ -1,9 +1,9 @@
-// Parts of bytes: what stands at a place, from a place on, up to a place, and where a byte stands.
+// Parts of bytes: what stands at a place, from a place on, up to a place, where a byte stands; and the lines of a text.
 // Nothing is asked of a place: behind the end there is nothing.
 #![tactic(auto)]
 
-ghost use Rattle.std.specs.Prelude.{◌≡◌, ◌==◌, ◌+◌, ◌≤◌, length, get_or, take, drop, slice_range};
-ghost use Rattle.std.specs.List.{position, position_or_len};
+ghost use Rattle.std.specs.Prelude.{◌≡◌, ◌==◌, ◌+◌, ◌≤◌, [], length, get_or, take, drop, slice_range};
+ghost use Rattle.std.specs.List.{position, position_or_len, slice_split};
 
 // The bytes from a place on, or none behind the end.
 pub fn from(bytes: &[u8], at: usize) -> &[u8]
@@ -45,4 +45,11 @@ pub fn find(bytes: &[u8], from: usize, to: usize, byte: u8) -> usize
         Some(n) => from + n,
         None => to,
     }
+}
+
+// The line at a place, counted from 0, without its line feed; nothing where there are fewer lines.
+pub fn line_at(text: &[u8], place: usize) -> &[u8]
+    ensures { result.now ≡ get_or (slice_split (λ b. b == 0x0A) text.now) place [] }
+{
+    text.split(|b| *b == b'\n').nth(place).unwrap_or(&[])
 }

@@ -75,7 +75,7 @@ pub fn owner_of(bank: Bank, timer: u8) -> u8
 fn refuse(bank: Bank, refusal: Refused) -> BankReply
     ensures { result ≡ record { bank = bank; answer = stored_answer (refused_with (number_of refusal)) } }
 {
-    let answer = answers::of_refusal(Err(refusal));
+    let answer = answers::refusal(Err(refusal));
     BankReply { bank, answer }
 }
 
@@ -100,7 +100,7 @@ pub fn allocate(bank: Bank, applet: u8, limit: u8) -> BankReply
         Ok(timer) => {
             let mut next = bank;
             next.owner[(timer - 1) as usize] = applet;
-            let answer = answers::of_number(Ok(timer));
+            let answer = answers::number(Ok(timer));
             BankReply { bank: next, answer }
         }
         Err(refusal) => refuse(bank, refusal),
@@ -123,7 +123,7 @@ pub fn release(bank: Bank, applet: u8, timer: u8) -> BankReply
         Ok(()) => {
             let mut next = bank;
             next.owner[(timer - 1) as usize] = 0;
-            let answer = answers::of_refusal(Ok(()));
+            let answer = answers::refusal(Ok(()));
             BankReply { bank: next, answer }
         }
         Err(refusal) => refuse(bank, refusal),

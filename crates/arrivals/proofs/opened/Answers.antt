@@ -1,12 +1,12 @@
 -- `opened` meets its contract.
 -- Assumes nothing.
-use mathlib.Core.Path.{refl, sym, ◌∙◌}
-use Rattle.rules.proofs.Numbers.{accepted_number}
+use Rattle.arrivals.proofs.Rounds.{opens}
+use Rattle.lists.proofs.Picks.{picks}
+use borrow.Author.Rules.{rules}
 use Rattle.arrivals.proofs.opened.Goals as goal
 
-pub returns-then-is_ok : goal.returns-then-is_ok
-returns-then-is_ok c =
-    rw (← accepted_number c.args.refusal, sym c.is_ok.ensures.value ∙ c.if-is_ok.true, c.both-waiting.ensures) refl
+pub returns-then-refusal-eq0 : goal.returns-then-refusal-eq0
+returns-then-refusal-eq0 c = opens _ _ _ _ c.if-refusal-eq0.true c.both-waiting.ensures
 
 pub returns : goal.returns
-returns c = rw (← accepted_number c.args.refusal, sym c.is_ok.ensures.value ∙ c.if-is_ok.false) refl
+returns c = search (picks, rules) depth 8

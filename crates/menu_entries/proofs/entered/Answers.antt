@@ -10,7 +10,7 @@ use Rattle.rules.specs.Rows.{place, identifier_for}
 use Rattle.rules.specs.Held.{stored_row, view_rows}
 use Rattle.rules.proofs.Listed.{place-le}
 use Rattle.menu.proofs.Tidy.{blank, count-is, opens}
-use Rattle.menu_entries.proofs.Free.{free-for, own-for}
+use Rattle.menu_entries.proofs.Free.{free-of, free-for, own-for}
 use Rattle.menu_entries.proofs.Entry.{entered-full, entered-room}
 use Rattle.menu_entries.proofs.entered.Goals as goal
 use Rattle.menu_entries.proofs.entered.Goals.{then-identifier-eq0, else-identifier-eq0}
@@ -29,7 +29,7 @@ loop-i-preserved c =
 pub returns-after-loop-i : goal.returns-after-loop-i
 returns-after-loop-i c =
     let given : c.if-identifier-eq0.identifier ≡ identifier_for c.args.pair.identifier (view_rows c.args.rows) = elim c.if-identifier-eq0.branch [
-      | then-identifier-eq0 w ↦ free-for _ w.if-identifier-eq0.true (w.identifier-is ∙ w.free_identifier-identifier.ensures)
+      | then-identifier-eq0 w ↦ free-for _ w.if-identifier-eq0.true (w.identifier-is ∙ w.free_identifier-identifier.ensures ∙ free-of c.args.rows c.from-n.ensures)
       | else-identifier-eq0 w ↦ own-for _ w.if-identifier-eq0.false w.identifier-is
     ] in
     let i : c.loop-i.i ≡ c.place_of-k.result = omega (arith, c.loop-i.invariant.0, c.loop-i-test.false) in
@@ -39,7 +39,7 @@ returns-after-loop-i c =
 pub returns-else-n-lt-MOST : goal.returns-else-n-lt-MOST
 returns-else-n-lt-MOST c =
     let given : c.if-identifier-eq0.identifier ≡ identifier_for c.args.pair.identifier (view_rows c.args.rows) = elim c.if-identifier-eq0.branch [
-      | then-identifier-eq0 w ↦ free-for _ w.if-identifier-eq0.true (w.identifier-is ∙ w.free_identifier-identifier.ensures)
+      | then-identifier-eq0 w ↦ free-for _ w.if-identifier-eq0.true (w.identifier-is ∙ w.free_identifier-identifier.ensures ∙ free-of c.args.rows c.from-n.ensures)
       | else-identifier-eq0 w ↦ own-for _ w.if-identifier-eq0.false w.identifier-is
     ] in
     entered-full c.args.rows c.requires c.args.pair c.args.owner c.args.help c.args.text.now given (omega (arith, c.from-n.ensures, c.if-n-lt-MOST.false))

@@ -4,10 +4,10 @@ use Rattle.menu_entries.proofs.Free.{used-none, used-more, free-is}
 use Rattle.menu_entries.proofs.free_identifier.Goals as goal
 
 pub loop-row-init : goal.loop-row-init
-loop-row-init c = used-none c.listed-row-items.result.now
+loop-row-init c = used-none c.args.listed.now
 
 pub loop-row-preserved : goal.loop-row-preserved
-loop-row-preserved c = used-more c.listed-row-items.result.now c.loop-row.row-index _ c.loop-row-test.true c.loop-row.invariant c.bit_of-used.ensures
+loop-row-preserved c = used-more c.args.listed.now c.loop-row.row-index _ c.loop-row-test.true c.loop-row.invariant c.bit_of-used.ensures
 
 pub returns : goal.returns
-returns c = free-is c.args.rows.now c.requires c.listed-row-items.ensures c.loop-row-test.false c.loop-row.invariant
+returns c = free-is c.args.listed.now c.requires c.loop-row-test.false c.loop-row.invariant

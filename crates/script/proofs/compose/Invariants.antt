@@ -3,8 +3,8 @@ use Rattle.std.proofs.Common.{◌≡◌, length}
 use Rattle.script.proofs.Blocks.{Composing}
 use Rattle.script.proofs.compose.Given as goal
 
-abbrev pub invariant-loop-parts : goal.invariant-loop-parts
-invariant-loop-parts l = Composing l.last l.records l.lines l.text l.left l.out × (length l.out ≡ length l.initial.out)
+abbrev pub invariant-loop-out : goal.invariant-loop-out
+invariant-loop-out l = Composing l.last l.records l.lines l.text l.left l.out × (length l.out ≡ length l.initial.out)
 
-abbrev pub decreases-loop-parts : goal.decreases-loop-parts
-decreases-loop-parts l = length l.left
+abbrev pub decreases-loop-out : goal.decreases-loop-out
+decreases-loop-out l = length l.left

@@ -11,7 +11,7 @@ overflow_sub-next c = omega (arith, c.in-Ok.ensures.timer, lowest-some c.args.ba
 
 pub returns-in-Ok : goal.returns-in-Ok
 unfolding refusal_number answer_with
-returns-in-Ok c = rw c.of_number-answer.ensures (allocate-given _ _ _ _ c.in-Ok.ensures.refusal c.in-Ok.ensures.timer)
+returns-in-Ok c = rw c.number-answer.ensures (allocate-given _ _ _ _ c.in-Ok.ensures.refusal c.in-Ok.ensures.timer)
 
 pub returns-in-Err : goal.returns-in-Err
 unfolding refusal_number

@@ -6,4 +6,4 @@ use Rattle.timers.proofs.refuse.Goals as goal
 
 pub returns : goal.returns
 unfolding refusal_number
-returns c = rw c.of_refusal-answer.ensures refl
+returns c = rw c.refusal-answer.ensures refl

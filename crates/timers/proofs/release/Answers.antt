@@ -18,7 +18,7 @@ bounds-next-timer c =
 
 pub returns-in-Ok : goal.returns-in-Ok
 unfolding refusal_number
-returns-in-Ok c = rw c.of_refusal-answer.ensures (release-accepted _ _ _ c.in-Ok.ensures)
+returns-in-Ok c = rw c.refusal-answer.ensures (release-accepted _ _ _ c.in-Ok.ensures)
 
 pub returns-in-Err : goal.returns-in-Err
 unfolding refusal_number

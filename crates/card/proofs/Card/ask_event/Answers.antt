@@ -14,4 +14,4 @@ bounds-registered-p c = place-within _ (kind-of-value _ c.ranges.value c.kind_of
 pub returns : goal.returns
 returns c =
     asks-event c.args.self c.requires c.args.applet c.args.value (kind-of-value _ c.ranges.value c.kind_of-kind.ensures)
-    c.has-there.ensures c.refusal_for-refusal.ensures c.place_of-place.ensures c.is_listed-says.ensures (c.of_yes_or_no-answer.ensures ∙ ap stored_answer (answer-beside saying _ _ c.and.ensures))
+    c.has-there.ensures c.refusal_for-refusal.ensures c.place_of-place.ensures c.is_listed-says.ensures (c.yes_or_no-answer.ensures ∙ ap stored_answer (answer-beside saying _ _ c.and.ensures))

@@ -28,6 +28,6 @@ returns c =
           w.due_switched-due.ensures.menu w.due_switched-due.ensures.events w.due_switched-due.ensures.polling w.switched-selectable.ensures
           w.roll_without-next_roll.ensures w.unregistered-next_registered.ensures (w.table_with-next_made.ensures 0) (w.table_with-next_polls.ensures 0) w.freed-left.ensures w.owner_without.ensures
           w.without-next_rows.ensures w.switched-waiting.ensures)
-          c.of_refusal-answer.ensures
-      | else-there w ↦ deletes-none c.args.self c.requires c.args.applet c.has-there.ensures c.absent_refusal.ensures w.if-there.false w.left-is c.of_refusal-answer.ensures
+          c.refusal-answer.ensures
+      | else-there w ↦ deletes-none c.args.self c.requires c.args.applet c.has-there.ensures c.absent_refusal.ensures w.if-there.false w.left-is c.refusal-answer.ensures
     ]

@@ -13,5 +13,5 @@ whom-whom-requires c = tidy-rows _ c.requires
 pub returns : goal.returns
 unfolding number_of
 returns c =
-    comes _ c.requires _ c.read_envelope-e.ensures c.is_err-bad.ensures.value c.when-refusal.ensures.line c.arrival_of-arrived.ensures c.whom-whom.ensures
-    c.opened-opened.ensures c.envelope_marks-marks.ensures (c.answered-answer.ensures ∙ marks-beside _ _ c.and.ensures)
+    comes _ c.requires _ c.read_envelope-e.ensures c.is_err-bad.ensures.value c.when-refusal.ensures.line c.arrival_of-arrived.ensures c.whom-whom.ensures.arrived
+    c.round_after-opened.ensures c.envelope_marks-marks.ensures (c.marked-answer.ensures ∙ marks-beside _ _ c.and.ensures)

@@ -7,4 +7,4 @@ pub made-card-requires : goal.made-card-requires
 made-card-requires c = kept-short c.args.title.now c.title_refusal-refusal.ensures c.kept_length-n.ensures
 
 pub returns : goal.returns
-returns c = freshens c.args.title.now c.title_refusal-refusal.ensures c.kept_length-n.ensures c.made-card.ensures c.of_refusal-answer.ensures
+returns c = freshens c.args.title.now c.title_refusal-refusal.ensures c.kept_length-n.ensures c.made-card.ensures c.refusal-answer.ensures

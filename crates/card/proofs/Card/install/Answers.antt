@@ -27,4 +27,4 @@ returns c =
       | then-is_ok w ↦ with-newcomer k l n q e (accepted-zero _ c.is_ok.ensures.value w.if-is_ok.true) (w.granted-grant.ensures n) w.roll_with-next.ensures w.switched-selectable.ensures w.left-is
       | else-is_ok w ↦ as_it_was k l n q e (refused-above _ c.is_ok.ensures.value w.if-is_ok.false) w.left-is
     ])
-    c.of_refusal-answer.ensures
+    c.refusal-answer.ensures

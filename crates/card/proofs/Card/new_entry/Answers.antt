@@ -22,7 +22,7 @@ pub returns : goal.returns
 returns c =
     elim c.if-is_ok.branch [
       | then-is_ok w ↦ new-accepted c.args.self c.requires c.args.applet c.args.help c.args.text.now c.has-there.ensures c.grant_at-grant.ensures c.by_number-count.ensures c.fits-fits.ensures c.new_refusal-refusal.ensures (accepted-zero _ c.is_ok.ensures.value w.if-is_ok.true)
-          (c.of_number-answer.ensures ∙ ap stored_answer (answer-beside numbered _ _ c.and.ensures)) w.next_pair-pair.ensures w.entered-entered.ensures (w.table_with-more.ensures 0) w.has-turns.ensures w.due_after-due.ensures w.left-is w.identifier-is
+          (c.number-answer.ensures ∙ ap stored_answer (answer-beside numbered _ _ c.and.ensures)) w.next_pair-pair.ensures w.entered-entered.ensures (w.table_with-more.ensures 0) w.has-turns.ensures w.due_after-due.ensures w.left-is w.identifier-is
       | else-is_ok w ↦ new-refused c.args.self c.requires c.args.applet c.args.help c.args.text.now c.has-there.ensures c.grant_at-grant.ensures c.by_number-count.ensures c.fits-fits.ensures c.new_refusal-refusal.ensures
-          c.if-is_ok.identifier (c.of_number-answer.ensures ∙ ap stored_answer (answer-beside numbered _ _ c.and.ensures)) (refused-above _ c.is_ok.ensures.value w.if-is_ok.false) w.left-is
+          c.if-is_ok.identifier (c.number-answer.ensures ∙ ap stored_answer (answer-beside numbered _ _ c.and.ensures)) (refused-above _ c.is_ok.ensures.value w.if-is_ok.false) w.left-is
     ]

@@ -24,4 +24,4 @@ slice_bounds-first_of-end c = sym (length-take-le c.from.result c.args.self.roll
 pub returns : goal.returns
 returns c =
     let named = c.first_of-named.ensures ∙ ap (λ (n : ℕ). first (has? c.ready-who.result) 0 (take n c.args.self.roll.order)) c.from.ensures in
-    tells-turn _ c.requires c.next_refusal-refusal.ensures c.whom-still.ensures c.ready-who.ensures named c.turned-turned.ensures c.used_up-used.ensures c.without-rest.ensures (c.of_called-answer.ensures ∙ called-beside _ _ c.and.ensures)
+    tells-turn _ c.requires c.next_refusal-refusal.ensures c.whom-still.ensures.arrived c.ready-who.ensures named c.turned-turned.ensures c.used_up-used.ensures c.without-rest.ensures (c.called-answer.ensures ∙ called-beside _ _ c.and.ensures)

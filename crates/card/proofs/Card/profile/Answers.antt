@@ -14,9 +14,9 @@ has_shown_row-menu-requires c = tidy-rows _ c.requires
 pub returns-then-is_ok : goal.returns-then-is_ok
 unfolding number_of
 returns-then-is_ok c =
-    begins-session _ c.requires _ c.when-refusal.ensures.line c.event_at-arrived.ensures c.opened-opened.ensures c.other_marks-marks.ensures (c.answered-answer.ensures ∙ marks-beside _ _ c.and.ensures)
+    begins-session _ c.requires _ c.when-refusal.ensures.line c.event_at-arrived.ensures c.round_after-opened.ensures c.other_marks-marks.ensures (c.marked-answer.ensures ∙ marks-beside _ _ c.and.ensures)
     c.has_shown_row-menu.ensures c.any_listened-events.ensures c.any-interval.ensures c.begun-begun.ensures (accepted-zero _ c.is_ok.ensures.value c.if-is_ok.true)
 
 pub returns-else-is_ok : goal.returns-else-is_ok
 unfolding number_of
-returns-else-is_ok c = refuses-profile _ c.requires _ c.when-refusal.ensures.line c.event_at-arrived.ensures c.opened-opened.ensures c.other_marks-marks.ensures (c.answered-answer.ensures ∙ marks-beside _ _ c.and.ensures) (refused-above _ c.is_ok.ensures.value c.if-is_ok.false)
+returns-else-is_ok c = refuses-profile _ c.requires _ c.when-refusal.ensures.line c.event_at-arrived.ensures c.round_after-opened.ensures c.other_marks-marks.ensures (c.marked-answer.ensures ∙ marks-beside _ _ c.and.ensures) (refused-above _ c.is_ok.ensures.value c.if-is_ok.false)

@@ -18,6 +18,6 @@ returns c =
     let refused = passed w16 d (λ (d : ℤ). first_holding (line 2 (not c.has-there.result) ∷ line 20 (bad_duration d) ∷ [])) c.ranges.duration c.poll_refusal-refusal.ensures in
     elim c.if-is_ok.branch [
       | then-is_ok w ↦ takes c.args.self c.requires c.args.applet d c.has-there.ensures refused (accepted-zero _ c.is_ok.ensures.value w.if-is_ok.true)
-          (passed w16 d seconds_of c.ranges.duration w.seconds_of-seconds.ensures) (w.table_with-next.ensures 0) w.after_request-polling.ensures w.left-is c.of_refusal-answer.ensures
-      | else-is_ok w ↦ takes-not c.args.self c.requires c.args.applet d c.has-there.ensures refused (refused-above _ c.is_ok.ensures.value w.if-is_ok.false) w.left-is c.of_refusal-answer.ensures
+          (passed w16 d seconds_of c.ranges.duration w.seconds_of-seconds.ensures) (w.table_with-next.ensures 0) w.after_request-polling.ensures w.left-is c.refusal-answer.ensures
+      | else-is_ok w ↦ takes-not c.args.self c.requires c.args.applet d c.has-there.ensures refused (refused-above _ c.is_ok.ensures.value w.if-is_ok.false) w.left-is c.refusal-answer.ensures
     ]

@@ -6,4 +6,4 @@ use Rattle.card.proofs.Card.send.Goals as goal
 pub returns : goal.returns
 returns c =
     sends c.args.self c.requires c.args.applet c.args.bytes.now c.read_command-command.ensures c.has-there.ensures
-    c.send_refusal-refusal.ensures c.outstanding_after-is.ensures c.of_refusal-answer.ensures
+    c.send_refusal-refusal.ensures c.outstanding_after-is.ensures c.refusal-answer.ensures

@@ -6,4 +6,4 @@ use Rattle.card.proofs.Card.status.Goals as goal
 
 pub returns : goal.returns
 unfolding refusal_number
-returns c = wakes _ c.requires c.polling_set-whom.ensures c.opened-opened.ensures c.other_marks-marks.ensures c.answered-answer.ensures
+returns c = wakes _ c.requires c.polling_set-whom.ensures c.round_after-opened.ensures c.other_marks-marks.ensures c.marked-answer.ensures

@@ -10,4 +10,4 @@ enabled-touched-requires g c = tidy-rows _ c.requires
 pub returns : goal.returns
 returns g c =
     turns-entry c.args.self c.requires c.args.applet c.args.identifier _
-    c.has-there.ensures c.has-shown.ensures c.enabled-touched.ensures c.due_after-due.ensures c.row_refusal-refusal.ensures c.of_refusal-answer.ensures
+    c.has-there.ensures c.has-shown.ensures c.enabled-touched.ensures c.due_after-due.ensures c.row_refusal-refusal.ensures c.refusal-answer.ensures

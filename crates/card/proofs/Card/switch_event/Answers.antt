@@ -13,4 +13,4 @@ bounds-registered-p-2 g c = place-within _ (kind-of-value _ c.ranges.value c.kin
 pub returns : goal.returns
 returns g c =
     turns-event c.args.self c.requires c.args.applet c.args.value _ (kind-of-value _ c.ranges.value c.kind_of-kind.ensures)
-    c.has-there.ensures c.turn_refusal-refusal.ensures c.place_of-place.ensures c.set_after-is.ensures c.events_turn-turns.ensures c.owner_after-control.ensures c.due_after-events_due.ensures c.of_refusal-answer.ensures
+    c.has-there.ensures c.turn_refusal-refusal.ensures c.place_of-place.ensures c.set_after-is.ensures c.events_turn-turns.ensures c.owner_after-control.ensures c.due_after-events_due.ensures c.refusal-answer.ensures

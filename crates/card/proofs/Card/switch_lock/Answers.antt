@@ -13,6 +13,6 @@ pub returns : goal.returns
 returns g c =
     elim c.if-turns.branch [
       | then-turns w ↦ lock-turned c.args.self c.requires c.args.applet _ c.has-there.ensures c.absent_refusal-refusal.ensures (sym c.lock_switches-turns.ensures ∙ w.if-turns.true)
-          w.switched.ensures w.due_switched-left.ensures.menu w.due_switched-left.ensures.events w.due_switched-left.ensures.polling w.left-is c.of_refusal-answer.ensures
-      | else-turns w ↦ lock-still c.args.self c.requires c.args.applet _ c.has-there.ensures c.absent_refusal-refusal.ensures (sym c.lock_switches-turns.ensures ∙ w.if-turns.false) w.left-is c.of_refusal-answer.ensures
+          w.switched.ensures w.due_switched-left.ensures.menu w.due_switched-left.ensures.events w.due_switched-left.ensures.polling w.left-is c.refusal-answer.ensures
+      | else-turns w ↦ lock-still c.args.self c.requires c.args.applet _ c.has-there.ensures c.absent_refusal-refusal.ensures (sym c.lock_switches-turns.ensures ∙ w.if-turns.false) w.left-is c.refusal-answer.ensures
     ]

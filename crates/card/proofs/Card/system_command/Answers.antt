@@ -46,4 +46,4 @@ returns c =
       | else-first+else-first-2+else-first-3+then-first-4 w ↦ rw (w.if-first.false, w.if-first-2.false, w.if-first-3.false, w.if-first-4.true, w.buf-is, w.n-is) (off-wrote w.write_off.ensures)
       | else-first+else-first-2+else-first-3+else-first-4 w ↦ rw (w.if-first.false, w.if-first-2.false, w.if-first-3.false, w.if-first-4.false, w.buf-is, w.n-is) (nothing-wrote given)
     ] in
-    hands_out s c.requires given c.hand_refusal-refusal.ensures c.first_due-first.ensures c.rest_due-rest.ensures written (c.of_number-answer.ensures ∙ ap stored_answer (answer-beside numbered _ _ c.and.ensures))
+    hands_out s c.requires given c.hand_refusal-refusal.ensures c.first_due-first.ensures c.rest_due-rest.ensures written (c.number-answer.ensures ∙ ap stored_answer (answer-beside numbered _ _ c.and.ensures))

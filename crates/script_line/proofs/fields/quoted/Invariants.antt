@@ -1,7 +1,8 @@
--- What is left to read, behind what was found, gives what the whole text gives.
-use Rattle.std.proofs.Common.{◌≡◌, drop}
+-- What is left of the text, behind the bytes that are put, says what the whole text says.
+use Rattle.std.proofs.Common.{[], length, drop}
 use Rattle.script_line.specs.Lines.{bytes_from, in_text}
+use Rattle.script_line.specs.Records.{HeldSoFar}
 use Rattle.script_line.proofs.fields.quoted.Given as goal
 
 abbrev pub invariant-loop-i : goal.invariant-loop-i
-invariant-loop-i g l = bytes_from g.row.N l.initial.found.items in_text l.line ≡ bytes_from g.row.N l.found.items in_text (drop l.i l.line)
+invariant-loop-i l = HeldSoFar (bytes_from (length l.initial.room) [] in_text l.line) in_text (drop l.i l.line) l.i l.initial.room l.room

@@ -1,0 +1,2 @@
+-- What decides what an envelope says, and whether it is malformed.
+pub mod Judged
