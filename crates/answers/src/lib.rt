@@ -1,6 +1,5 @@
 // The answer of a call, one struct for every call, made of the refusal's number (0: none) and of what an accepted call tells.
 // What it holds of each answer stands in `rules`, specs/Held.antt.
-// Those over a number stand beside those over a result, which call them: docs/PROMISES.md names them, and they take every number.
 #![tactic(auto, unfolding(rules::specs::Held::stored_answer, rules::specs::Calls::answer_with, rules::specs::Numbers::refusal_number))]
 
 ghost use Rattle.std.specs.Prelude.{◌≡◌, false};
@@ -24,6 +23,8 @@ fn plain(refusal: u8, number: u8, says: bool) -> Answer
         ..Answer::default()
     }
 }
+
+// The four over a number take every number, as docs/PROMISES.md names them; those over a result, below, call these.
 
 // The refusal by its number, or that the call is accepted.
 pub fn of_refusal(refusal: u8) -> Answer

@@ -1,6 +1,5 @@
 // Menus that a card hands out, and items written by hand, read back: a line for each with the refusal, the title, the help mark and the items.
 // Below a handed-out menu stands, for each kind of damage, how many commands so damaged the reader refuses.
-// Each piece of a line is written whatever became of the one before.
 #![tactic(auto)]
 
 mod damage;
@@ -62,6 +61,7 @@ const WRITTEN: [(&str, &[u8]); 11] = [
     ),
 ];
 
+// Bytes in lower hex. Here and below each piece of a line is written whatever became of the one before.
 fn put_byte(to: &mut impl Write, b: u8) {
     put(to, format_args!("{b:02x}"));
 }

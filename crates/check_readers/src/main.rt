@@ -1,6 +1,5 @@
 // Reads lines `name: letter bytes` in upper hexadecimal and writes behind each name what the readers make of the bytes: e envelope, c command,
 // o outer element, f search (tag and occurrence, two bytes each, and the run), v event value (two bytes), d download code.
-// Each piece of a line is written whatever became of the one before.
 #![tactic(auto)]
 
 ghost use Rattle.std.specs.Prelude.{◌≤◌, length};
@@ -48,6 +47,7 @@ fn unhex<'a>(text: &[u8], bytes: &'a mut [u8]) -> &'a [u8] {
     first(bytes, triples.len())
 }
 
+// Bytes in lower hex. Here and below each piece of a line is written whatever became of the one before.
 fn put_byte(to: &mut impl Write, b: u8) {
     put(to, format_args!("{b:02x}"));
 }

@@ -47,7 +47,7 @@ fn line_record(line: &[u8], out: &mut [u8; 24]) -> Result<bool, Cause>
 }
 
 // How many bytes the line has that a text starts with.
-// Out of line: within `compose`, and as `texts::place`, its loop counts up an address beside the number.
+// Out of line: within `compose`, or by `texts::place`, its loop counts up an address beside the number.
 #[inline(never)]
 #[tactic(auto, unfolding(crate::specs::Texts::line_length))]
 fn line_len(text: &[u8]) -> usize
